@@ -1,0 +1,4 @@
+pub mod Plan
+pub mod Show
+pub mod Cheat
+pub mod Promise
