@@ -98,17 +98,16 @@ task-length bs t e =
     let q = pairs-sound (wordAt bs 1) lowest (wordAt bs 4) (drop 6 bs) (p .1 .0) (p .1 .1) in
     q .1 ∙ ap (λ m. 4 * m) (sym (length-from (wordAt bs 4) (drop 6 bs)) ∙ ap (λ (x : Task). length (x .pairs)) (p .2))
 
--- six bytes of a head, and the bytes that are written of what they say
-head-only : (bs : List ℕ) (t : Task) → 6 ≤ length bs → allBelow 256 bs ≡ true → eqb (at bs 0) 1 ≡ true → t .trains ≡ wordAt bs 1 → t .paths ≡ at bs 3 → length (t .pairs) ≡ wordAt bs 4 →
-    (bs ≡ headBytes t ++ drop 6 bs) × (allBelow 256 (drop 6 bs) ≡ true)
+-- six bytes of a head are what is written of what they say
+head-only : (bs : List ℕ) → HeadIs bs → allBelow 256 bs ≡ true → (bs ≡ headBytes (wordAt bs 1) (at bs 3) (wordAt bs 4) ++ drop 6 bs) × (allBelow 256 (drop 6 bs) ≡ true)
 unfolding allBelow
-head-only [] t h b k n p m = absurd (omega arith)
-head-only (x ∷ []) t h b k n p m = absurd (omega arith)
-head-only (x ∷ y ∷ []) t h b k n p m = absurd (omega arith)
-head-only (x ∷ y ∷ z ∷ []) t h b k n p m = absurd (omega arith)
-head-only (x ∷ y ∷ z ∷ u ∷ []) t h b k n p m = absurd (omega arith)
-head-only (x ∷ y ∷ z ∷ u ∷ v ∷ []) t h b k n p m = absurd (omega arith)
-head-only (x ∷ y ∷ z ∷ u ∷ v ∷ w ∷ bs) t h b k n p m =
+head-only [] h b = absurd (omega (arith, h .there))
+head-only (x ∷ []) h b = absurd (omega (arith, h .there))
+head-only (x ∷ y ∷ []) h b = absurd (omega (arith, h .there))
+head-only (x ∷ y ∷ z ∷ []) h b = absurd (omega (arith, h .there))
+head-only (x ∷ y ∷ z ∷ u ∷ []) h b = absurd (omega (arith, h .there))
+head-only (x ∷ y ∷ z ∷ u ∷ v ∷ []) h b = absurd (omega (arith, h .there))
+head-only (x ∷ y ∷ z ∷ u ∷ v ∷ w ∷ bs) h b =
     let c = and-parts (ltb x 256) _ b in
     let d = and-parts (ltb y 256) _ (c .1) in
     let e = and-parts (ltb z 256) _ (d .1) in
@@ -119,16 +118,17 @@ head-only (x ∷ y ∷ z ∷ u ∷ v ∷ w ∷ bs) t h b k n p m =
     let z′ = word-low y z (ltb-true _ _ (e .0)) in
     let v′ = word-high v w (ltb-true _ _ (g .0)) (ltb-true _ _ (i .0)) in
     let w′ = word-low v w (ltb-true _ _ (i .0)) in
-    (rw (n, p, m, y′, z′, v′, w′, eqb-true x 1 k) refl, i .1)
+    (rw (y′, z′, v′, w′, eqb-true x 1 (h .kind)) refl, i .1)
 
 task-only : (bs : List ℕ) (t : Task) → allBelow 256 bs ≡ true → readTask bs ≡ got t → (sound t ≡ true) × (bs ≡ taskBytes t)
 task-only bs t b e =
     let p = task-parts bs t e in
     let q = pairs-sound (wordAt bs 1) lowest (wordAt bs 4) (drop 6 bs) (p .1 .0) (p .1 .1) in
-    let u = taskIn (headIn bs) (drop 6 bs) in
-    let h = head-only bs u (p .0 .there) b (p .0 .kind) refl refl (length-from (wordAt bs 4) (drop 6 bs)) in
+    let h = head-only bs (p .0) b in
     let d = pairs-only (wordAt bs 4) (drop 6 bs) (h .1) (q .1) in
-    (task-sound bs t e, h .0 ∙ (ap (λ ys. headBytes u ++ ys) (sym d) ∙ ap taskBytes (p .2)))
+    let l = length-from (wordAt bs 4) (drop 6 bs) in
+    let f : List ℕ → ℕ → List ℕ = λ ys m. headBytes (wordAt bs 1) (at bs 3) m ++ ys in
+    (task-sound bs t e, h .0 ∙ (ap (λ ys. f ys (wordAt bs 4)) (sym d) ∙ (ap (f _) (sym l) ∙ ap taskBytes (p .2))))
 
 within-least : (low high x : ℕ) → within low high x ≡ true → low ≤ x
 within-least low high x e = leb-true low x (and-parts (leb low x) (leb x high) e .0)

@@ -5,4 +5,6 @@ pub mod Model
 pub mod Reading
 pub mod Head
 pub mod Writing
+pub mod Fitting
 pub mod Prohibiting
+pub mod Putting

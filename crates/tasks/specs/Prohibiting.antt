@@ -7,12 +7,13 @@ use lib.Dec.{eqb, ltb, leb, T}
 use lib.ListN.{length, take, drop}
 use Rattle.paths.specs.Plan.{Pair, Task, Plan, at, fits}
 use Rattle.paths.specs.Cheat.{upTo}
+use Rattle.std.specs.declared.result.Result.{Result}
+use Rattle.std.specs.declared.result.Result.the-variants.{Ok, Err}
+use Rattle.tasks.specs.declared.fault.Fault.{Fault}
+use Rattle.tasks.specs.declared.fault.Fault.the-variants.{Memory}
+use Rattle.tasks.specs.declared.prohibiting.Prohibition.{Prohibition}
+use Rattle.tasks.specs.Reading.{Got, got, refused, gives}
 use Rattle.tasks.specs.Task.{before}
-
--- a train, and a path that it may not use
-pub record Prohibition : Type 0 where
-  pub train : ℕ
-  pub path : ℕ
 
 -- a pair put at its place among pairs in rising order, and not twice
 unfoldable pub put : Pair → List Pair → List Pair
@@ -40,16 +41,24 @@ pairFor n b = record { a = b .train; e = n + b .path }
 -- the task with a train more for each path
 abbrev pub built : Task → List Prohibition → Task
 built t bs =
-    record
-      { trains = t .trains + t .paths
-      ; paths = t .paths
-      ; pairs = putAll (map (pairFor (t .trains)) bs) (putAll (everyTwo (t .trains) (t .paths)) (t .pairs))
-      }
+    record {
+      trains = t .trains + t .paths;
+      paths = t .paths;
+      pairs = putAll (map (pairFor (t .trains)) bs) (putAll (everyTwo (t .trains) (t .paths)) (t .pairs));
+    }
 
--- each prohibition names a train and a path that are there
+-- a prohibition names a train and a path that are there
+abbrev pub isNamed : Task → Prohibition → Bool
+isNamed t b = ltb (b .train) (t .trains) && ltb (b .path) (t .paths)
+
 unfoldable pub named : Task → List Prohibition → Bool
 named t [] = true
-named t (b ∷ bs) = ltb (b .train) (t .trains) && ltb (b .path) (t .paths) && named t bs
+named t (b ∷ bs) = isNamed t b && named t bs
+
+-- what is built of a task and prohibitions: fault 2 where a train or a path isn't there, or the built task has too many trains or pairs
+abbrev pub prohibit : Task → List Prohibition → Got Task
+prohibit t bs =
+    cond (leb (t .trains + t .paths) 1024 && named t bs && leb (length (built t bs .pairs)) 4096) (got (built t bs)) (refused 2)
 
 -- no train has a path that it may not use
 unfoldable pub keeps : List Prohibition → Plan → Bool

@@ -16,11 +16,12 @@ wordBytes x = (x / 256 % 256) ∷ (x % 256) ∷ []
 abbrev pub pairBytes : Pair → List ℕ
 pairBytes x = wordBytes (x .a) ++ wordBytes (x .e)
 
-abbrev pub headBytes : Task → List ℕ
-headBytes t = (1 ∷ wordBytes (t .trains)) ++ (t .paths ∷ wordBytes (length (t .pairs)))
+-- of n trains, k paths and m pairs
+abbrev pub headBytes : ℕ → ℕ → ℕ → List ℕ
+headBytes n k m = (1 ∷ wordBytes n) ++ (k ∷ wordBytes m)
 
 abbrev pub taskBytes : Task → List ℕ
-taskBytes t = headBytes t ++ joined pairBytes (t .pairs)
+taskBytes t = headBytes (t .trains) (t .paths) (length (t .pairs)) ++ joined pairBytes (t .pairs)
 
 abbrev pub planBytes : Plan → List ℕ
 planBytes p = (2 ∷ wordBytes (length p)) ++ p

@@ -1,17 +1,25 @@
 // Tasks and plans as bytes, read exactly or refused by a fault; the first pair that a plan fails; tasks with prohibitions.
 mod fault;
+mod fitting;
 mod pair;
 mod plan;
+mod prohibiting;
 mod reading;
 mod task;
+mod writing;
 
 pub use fault::Fault;
 pub use fault::FaultDisplay;
 pub use fault::FaultFromAlloc;
 pub use fault::FaultFromRefused;
 pub use fault::Unfit;
+pub use fitting::first_unfit;
 pub use pair::Pair;
 pub use plan::Plan;
+pub use prohibiting::Prohibition;
+pub use prohibiting::with_prohibitions;
 pub use reading::read_plan;
 pub use reading::read_task;
 pub use task::Task;
+pub use writing::write_plan;
+pub use writing::write_task;

@@ -9,11 +9,12 @@ ghost use Rattle.tasks.specs.Model.{taskOf, planOf};
 ghost use Rattle.tasks.specs.Pair.{pairOf};
 ghost use Rattle.tasks.specs.Head.{headOf};
 ghost use Rattle.tasks.specs.Reading.{Meets, gives, readHead, readPair, taskIn, readPairs, pairIn, pairsFrom, readPath, readPaths, readPlanHead, readPlan, readTask, ends, looks};
-ghost use Rattle.tasks.specs.Task.{before, sound};
+ghost use Rattle.tasks.specs.Task.{sound};
 ghost use Rattle.tasks.specs.Writing.{Inverse, taskBytes, planBytes, isPlan};
 use super::fault::Fault;
 use super::fault::FaultFromAlloc;
 use super::pair::Pair;
+use super::pair::before;
 use super::plan::Plan;
 use super::task::Task;
 use std::alloc::AllocError;
@@ -61,12 +62,6 @@ fn read_head(bytes: &[u8]) -> Result<Head, Fault>
         return Err(Fault::Range);
     }
     Ok(Head { trains, paths, pairs })
-}
-
-fn before(x: Pair, y: Pair) -> bool
-    ensures { λ r. ⌜ r ≡ before (pairOf x) (pairOf y) ⌝ }
-{
-    x.first < y.first || (x.first == y.first && x.second < y.second)
 }
 
 fn pair_in(bytes: &[u8]) -> Pair
