@@ -35,7 +35,7 @@ module _ (t : Task) (bs : List Prohibition) where
       seen ≡ all → kept ≡ olds → t .pairs ≡ map pairOf olds → putAll (map pairOf seen) (map pairOf kept) ≡ built t bs .pairs
   all-put none first all seen kept olds e f g s k o =
       let listed : map pairOf seen ≡ everyTwo (t .trains) (t .paths) ++ map (pairFor (t .trains)) bs =
-          ap (map pairOf) s ∙ (g ∙ ap (λ xs. xs ++ map (pairFor (t .trains)) bs) (f ∙ ap (λ xs. map pairOf xs ++ everyTwo (t .trains) (t .paths)) e)) in
+      ap (map pairOf) s ∙ (g ∙ ap (λ xs. xs ++ map (pairFor (t .trains)) bs) (f ∙ ap (λ xs. map pairOf xs ++ everyTwo (t .trains) (t .paths)) e)) in
       let olds′ : map pairOf kept ≡ t .pairs = ap (map pairOf) k ∙ sym o in
       ap (putAll (map pairOf seen)) olds′ ∙ (ap (λ xs. putAll xs (t .pairs)) listed ∙ putAll-append (everyTwo (t .trains) (t .paths)) (map (pairFor (t .trains)) bs) (t .pairs))
 
@@ -55,14 +55,15 @@ is-sound t =
     let n = t .pairs .ok .0 in
     let l = length-map (vec-items (t .pairs)) pairOf in
     sound-from (taskOf t)
-    (record
-      { some-train = t .«some_train»;
-        few-trains = t .«few_trains»;
-        some-path = t .«some_path»;
-        few-paths = t .«few_paths»;
-        some-pair = omega (arith, t .«some_pair»);
-        few-pairs = omega (arith, t .«few_pairs»);
-        rises = t .«rising_pairs» })
+    (record {
+      some-train = t .«some_train»;
+      few-trains = t .«few_trains»;
+      some-path = t .«some_path»;
+      few-paths = t .«few_paths»;
+      some-pair = omega (arith, t .«some_pair»);
+      few-pairs = omega (arith, t .«few_pairs»);
+      rises = t .«rising_pairs»;
+    })
 
 -- the built task, of which the pairs are kept as v
 module _ (t : CodeTask) (bs : List Prohibition) (v : Vec CodePair Global) (h : t .trains + t .paths ≤ 1024) (b : (named (taskOf t) bs ≡ true) × (map pairOf (vec-items v) ≡ built (taskOf t) bs .pairs) × (vec-len v ≤ 4096)) where

@@ -91,5 +91,6 @@ pair-local n = record { sees = sees; needs = needs }
     sees last bs ys h =
         let e : pairIn (bs ++ ys) ≡ pairIn bs = same-pair (pairIn bs) _ _ (word-sees bs ys 0 (omega arith)) (word-sees bs ys 2 (omega arith)) in
         pair-read n last _ (bs ++ ys) (simp length-append (omega arith)) e ∙ sym (pair-read n last _ bs h refl)
+
     needs : (last : Pair) (bs : List ℕ) → length bs < 4 → readPair n last bs ≡ refused 1
     needs last bs h = ap (λ b. judged n last b (pairIn bs)) (lt-leb 4 (length bs) h)

@@ -105,19 +105,20 @@ module _ (t : Task) (few : t .trains < 65536) where
       let kind : 1 ≤ length bs → eqb (at bs 0) 2 ≡ true = λ s. ap (λ x. eqb x 2) (sym (getD-append-left bs ys 0 0 s)) ∙ q .0 .kind in
       let trains : 3 ≤ length bs → eqb (wordAt bs 1) (t .trains) ≡ true = λ s. ap (λ x. eqb x (t .trains)) (sym (word-sees bs ys 1 s)) ∙ q .0 .trains in
       let rest : Looked → Got Plan = λ _. andThen (readPaths (t .paths) (t .trains) (drop 3 bs)) (λ _. got (drop 3 bs)) in
-      elim (cases-lt (length bs) 3)
-        [ inl s ↦
-          let c : readPlanHead (t .trains) bs ≡ refused 1 = unit-prefix bs 1 _ 1 _ (λ r. (kind r, unit-prefix bs 3 _ 1 (got tt) (λ u. absurd (omega arith)))) in
-          ap (λ g. andThen g rest) c
+      elim (cases-lt (length bs) 3) [
+        | inl s ↦
+            let c : readPlanHead (t .trains) bs ≡ refused 1 = unit-prefix bs 1 _ 1 _ (λ r. (kind r, unit-prefix bs 3 _ 1 (got tt) (λ u. absurd (omega arith)))) in
+            ap (λ g. andThen g rest) c
         | inr s ↦
-          let d : readPaths (t .paths) (t .trains) (drop 3 bs ++ ys) ≡ got (q .1 .0) = ap (readPaths (t .paths) (t .trains)) (sym (drop-append-le 3 bs ys s)) ∙ q .1 .1 in
-          let c = each-cut 1 (readPath (t .paths)) (path-local (t .paths)) ys (q .1 .0) h tt (t .trains) (drop 3 bs) d in
-          rw (head-made (t .trains) bs (record { there = s; kind = kind (omega arith); trains = trains s }), c) refl
-        ]
+            let d : readPaths (t .paths) (t .trains) (drop 3 bs ++ ys) ≡ got (q .1 .0) = ap (readPaths (t .paths) (t .trains)) (sym (drop-append-le 3 bs ys s)) ∙ q .1 .1 in
+            let c = each-cut 1 (readPath (t .paths)) (path-local (t .paths)) ys (q .1 .0) h tt (t .trains) (drop 3 bs) d in
+            rw (head-made (t .trains) bs (record { there = s; kind = kind (omega arith); trains = trains s }), c) refl
+      ]
 
   pub plan-law : Inverse (readPlan t) planBytes (isPlan t)
   plan-law =
-      record
-        { reads = plan-reads;
-          only = plan-only;
-          cuts = λ p s j h. plan-cut (take j (planBytes p)) (drop j (planBytes p)) p (ap (readPlan t) (take-append-drop j (planBytes p)) ∙ plan-reads p s) (simp length-drop (omega arith)) }
+      record {
+        reads = plan-reads;
+        only = plan-only;
+        cuts = λ p s j h. plan-cut (take j (planBytes p)) (drop j (planBytes p)) p (ap (readPlan t) (take-append-drop j (planBytes p)) ∙ plan-reads p s) (simp length-drop (omega arith));
+      }

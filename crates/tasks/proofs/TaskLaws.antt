@@ -52,20 +52,28 @@ word-sees-good bs ys i good h e = ap good (sym (word-sees bs ys i h)) ∙ e
 
 head-cut : (bs ys : List ℕ) → HeadIs (bs ++ ys) → length bs < 6 → readHead bs ≡ refused 1
 head-cut bs ys i h =
-    unit-prefix bs 1 _ 1 _ (λ s. (byte-sees bs ys 0 (λ x. eqb x 1) (omega arith) (i .kind),
-    unit-prefix bs 3 _ 2 _ (λ s. (word-sees-good bs ys 1 (within 1 1024) (omega arith) (i .trains),
-    unit-prefix bs 4 _ 2 _ (λ s. (byte-sees bs ys 3 (within 1 64) (omega arith) (i .paths),
-    unit-prefix bs 6 _ 2 (got (headIn bs)) (λ s. absurd (omega arith))))))))
+    unit-prefix bs 1 _ 1 _ (λ s. (
+      byte-sees bs ys 0 (λ x. eqb x 1) (omega arith) (i .kind),
+      unit-prefix bs 3 _ 2 _ (λ s. (
+        word-sees-good bs ys 1 (within 1 1024) (omega arith) (i .trains),
+        unit-prefix bs 4 _ 2 _ (λ s. (
+          byte-sees bs ys 3 (within 1 64) (omega arith) (i .paths),
+          unit-prefix bs 6 _ 2 (got (headIn bs)) (λ s. absurd (omega arith)),
+        )),
+      )),
+    ))
 
 head-sees : (bs ys : List ℕ) → HeadIs (bs ++ ys) → 6 ≤ length bs → HeadIs bs × (headIn (bs ++ ys) ≡ headIn bs)
-head-sees bs ys i h =
-    (record
-      { there = h;
-        kind = byte-sees bs ys 0 (λ x. eqb x 1) (omega arith) (i .kind);
-        trains = word-sees-good bs ys 1 (within 1 1024) (omega arith) (i .trains);
-        paths = byte-sees bs ys 3 (within 1 64) (omega arith) (i .paths);
-        pairs = word-sees-good bs ys 4 (within 1 4096) (omega arith) (i .pairs) },
-      rw (word-sees bs ys 1 (omega arith), getD-append-left bs ys 0 3 (omega arith), word-sees bs ys 4 (omega arith)) refl)
+head-sees bs ys i h = (
+  record {
+    there = h;
+    kind = byte-sees bs ys 0 (λ x. eqb x 1) (omega arith) (i .kind);
+    trains = word-sees-good bs ys 1 (within 1 1024) (omega arith) (i .trains);
+    paths = byte-sees bs ys 3 (within 1 64) (omega arith) (i .paths);
+    pairs = word-sees-good bs ys 4 (within 1 4096) (omega arith) (i .pairs);
+  },
+  rw (word-sees bs ys 1 (omega arith), getD-append-left bs ys 0 3 (omega arith), word-sees bs ys 4 (omega arith)) refl,
+)
 
 -- what was read: the head, the pairs, and the task
 task-parts : (bs : List ℕ) (t : Task) → readTask bs ≡ got t → HeadIs bs × ((y : Looked) × (readPairs (wordAt bs 1) (wordAt bs 4) (drop 6 bs) ≡ got y)) × (taskIn (headIn bs) (drop 6 bs) ≡ t)
@@ -149,29 +157,30 @@ task-reads t s =
     let m : wordAt (taskBytes t) 4 ≡ length (t .pairs) = word-back (length (t .pairs)) (omega (arith, within-most 1 4096 (length (t .pairs)) (q .1))) in
     let w = pairs-written (t .trains) lowest (t .pairs) (omega arith) (p .1) in
     let i : HeadIs (taskBytes t) =
-        record
-          { there = omega arith;
-            kind = refl;
-            trains = ap (within 1 1024) n ∙ r .0;
-            paths = r .1;
-            pairs = ap (within 1 4096) m ∙ q .1 } in
+    record {
+      there = omega arith;
+      kind = refl;
+      trains = ap (within 1 1024) n ∙ r .0;
+      paths = r .1;
+      pairs = ap (within 1 4096) m ∙ q .1;
+    } in
     let e : readPairs (wordAt (taskBytes t) 1) (wordAt (taskBytes t) 4) (joined pairBytes (t .pairs)) ≡ got tt =
-        ap (λ x. readPairs x (wordAt (taskBytes t) 4) (joined pairBytes (t .pairs))) n ∙ (ap (λ x. readPairs (t .trains) x (joined pairBytes (t .pairs))) m ∙ w .0) in
+    ap (λ x. readPairs x (wordAt (taskBytes t) 4) (joined pairBytes (t .pairs))) n ∙ (ap (λ x. readPairs (t .trains) x (joined pairBytes (t .pairs))) m ∙ w .0) in
     let f : pairsFrom (wordAt (taskBytes t) 4) (joined pairBytes (t .pairs)) ≡ t .pairs = ap (λ x. pairsFrom x (joined pairBytes (t .pairs))) m ∙ w .1 in
     task-made (taskBytes t) tt i e ∙ ap got (same-task t _ _ _ n refl f)
 
 task-cut : (bs ys : List ℕ) (t : Task) → readTask (bs ++ ys) ≡ got t → 0 < length ys → readTask bs ≡ refused 1
 task-cut bs ys t e h =
     let p = task-parts (bs ++ ys) t e in
-    elim (cases-lt (length bs) 6)
-      [ inl s ↦ ap (λ g. andThen g (λ h. andThen (readPairs (h .trains) (h .pairs) (drop 6 bs)) (λ _. got (taskIn h (drop 6 bs))))) (head-cut bs ys (p .0) s)
+    elim (cases-lt (length bs) 6) [
+      | inl s ↦ ap (λ g. andThen g (λ h. andThen (readPairs (h .trains) (h .pairs) (drop 6 bs)) (λ _. got (taskIn h (drop 6 bs))))) (head-cut bs ys (p .0) s)
       | inr s ↦
-        let q = head-sees bs ys (p .0) s in
-        let d : readPairs (wordAt bs 1) (wordAt bs 4) (drop 6 bs ++ ys) ≡ got (p .1 .0) =
-            ap (λ (x : Head). readPairs (x .trains) (x .pairs) (drop 6 bs ++ ys)) (sym (q .1)) ∙ (ap (readPairs (wordAt (bs ++ ys) 1) (wordAt (bs ++ ys) 4)) (sym (drop-append-le 6 bs ys s)) ∙ p .1 .1) in
-        let c = each-cut 4 (readPair (wordAt bs 1)) (pair-local (wordAt bs 1)) ys (p .1 .0) h lowest (wordAt bs 4) (drop 6 bs) d in
-        rw (head-made bs (q .0), c) refl
-      ]
+          let q = head-sees bs ys (p .0) s in
+          let d : readPairs (wordAt bs 1) (wordAt bs 4) (drop 6 bs ++ ys) ≡ got (p .1 .0) =
+          ap (λ (x : Head). readPairs (x .trains) (x .pairs) (drop 6 bs ++ ys)) (sym (q .1)) ∙ (ap (readPairs (wordAt (bs ++ ys) 1) (wordAt (bs ++ ys) 4)) (sym (drop-append-le 6 bs ys s)) ∙ p .1 .1) in
+          let c = each-cut 4 (readPair (wordAt bs 1)) (pair-local (wordAt bs 1)) ys (p .1 .0) h lowest (wordAt bs 4) (drop 6 bs) d in
+          rw (head-made bs (q .0), c) refl
+    ]
 
 task-cuts : (t : Task) → sound t ≡ true → (j : ℕ) → j < length (taskBytes t) → readTask (take j (taskBytes t)) ≡ refused 1
 task-cuts t s j h =
@@ -199,14 +208,15 @@ guarantees t s =
     let p = and-parts _ (rising (t .trains) lowest (t .pairs)) s in
     let q = and-parts _ (within 1 4096 (length (t .pairs))) (p .0) in
     let r = and-parts (within 1 1024 (t .trains)) (within 1 64 (t .paths)) (q .0) in
-    record
-      { some-train = within-least 1 1024 _ (r .0);
-        few-trains = within-most 1 1024 _ (r .0);
-        some-path = within-least 1 64 _ (r .1);
-        few-paths = within-most 1 64 _ (r .1);
-        some-pair = within-least 1 4096 _ (q .1);
-        few-pairs = within-most 1 4096 _ (q .1);
-        rises = p .1 }
+    record {
+      some-train = within-least 1 1024 _ (r .0);
+      few-trains = within-most 1 1024 _ (r .0);
+      some-path = within-least 1 64 _ (r .1);
+      few-paths = within-most 1 64 _ (r .1);
+      some-pair = within-least 1 4096 _ (q .1);
+      few-pairs = within-most 1 4096 _ (q .1);
+      rises = p .1;
+    }
 
 is-within : (low high x : ℕ) → low ≤ x → x ≤ high → within low high x ≡ true
 is-within low high x l h = and-from _ _ (le-leb low x l) (le-leb x high h)

@@ -51,16 +51,16 @@ module _ {A : Type 0} (w : ℕ) (one : A → List ℕ → Got A) (l : Local w on
   unfolding readEach
   each-cut last zero bs e = absurd (omega (arith, simp length-append at (ends-got (bs ++ ys) x e)))
   each-cut last (suc m) bs e =
-      elim (cases-lt (length bs) w)
-        [ inl s ↦ rw (l .needs last bs s) refl
+      elim (cases-lt (length bs) w) [
+        | inl s ↦ rw (l .needs last bs s) refl
         | inr s ↦
-          let p = then-got (one last (bs ++ ys)) (λ y. readEach one w y m (drop w (bs ++ ys))) x e in
-          let g : one last bs ≡ got (p .0) = sym (l .sees last bs ys s) ∙ p .1 in
-          let d : readEach one w (p .0) m (drop w bs ++ ys) ≡ got x =
-              ap (readEach one w (p .0) m) (sym (drop-append-le w bs ys s)) ∙ p .2
-          in
-          rw g (each-cut (p .0) m (drop w bs) d)
-        ]
+            let p = then-got (one last (bs ++ ys)) (λ y. readEach one w y m (drop w (bs ++ ys))) x e in
+            let g : one last bs ≡ got (p .0) = sym (l .sees last bs ys s) ∙ p .1 in
+            let d : readEach one w (p .0) m (drop w bs ++ ys) ≡ got x =
+            ap (readEach one w (p .0) m) (sym (drop-append-le w bs ys s)) ∙ p .2
+            in
+            rw g (each-cut (p .0) m (drop w bs) d)
+      ]
 
 pub unit-prefix : {A : Type 0} (bs : List ℕ) (end : ℕ) (good : Bool) (f : ℕ) (next : Got A) → (end ≤ length bs → (good ≡ true) × (next ≡ refused 1)) → unit bs end good f next ≡ refused 1
 unit-prefix bs end good f next p =

@@ -8,3 +8,4 @@ pub mod Writing
 pub mod Fitting
 pub mod Prohibiting
 pub mod Putting
+pub mod Rounds

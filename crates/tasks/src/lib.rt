@@ -5,6 +5,7 @@ mod pair;
 mod plan;
 mod prohibiting;
 mod reading;
+mod rounds;
 mod task;
 mod writing;
 
@@ -20,6 +21,7 @@ pub use prohibiting::Prohibition;
 pub use prohibiting::with_prohibitions;
 pub use reading::read_plan;
 pub use reading::read_task;
+pub use rounds::Rounds;
 pub use task::Task;
 pub use writing::write_plan;
 pub use writing::write_task;

@@ -100,7 +100,11 @@ fn prohibited(task: &Task, prohibition: Prohibition) -> Option<Pair>
     })
 }
 
-fn add_prohibited(more: &mut Vec<Pair>, task: &Task, prohibitions: &[Prohibition]) -> Result<(), Fault>
+fn add_prohibited(
+    more: &mut Vec<Pair>,
+    task: &Task,
+    prohibitions: &[Prohibition],
+) -> Result<(), Fault>
     ensures { λ r. ⌜ Prohibiting (taskOf (now (task .entry))) (now (prohibitions .entry)) (vec-items (now (more .entry))) (vec-items (now (more .exit))) r ⌝ }
 {
     for prohibition in prohibitions {
@@ -127,7 +131,11 @@ fn built_pairs(heap: Global, task: &Task, prohibitions: &[Prohibition]) -> Resul
 
 // The task in which each prohibition is kept: it has a train more for each path, every two of these are a pair, and so is each train that may not use a
 // path with the train of that path. Refused by fault 2 where a train or a path isn't there, or the built task would have too many trains or pairs.
-pub fn with_prohibitions(heap: Global, task: &Task, prohibitions: &[Prohibition]) -> Result<Task, Fault>
+pub fn with_prohibitions(
+    heap: Global,
+    task: &Task,
+    prohibitions: &[Prohibition],
+) -> Result<Task, Fault>
     ensures answer { λ r. ⌜ Answers taskOf r (prohibit (taskOf (now (task .entry))) (now (prohibitions .entry))) ⌝ }
     ensures fixes { λ r. ⌜ made r (λ u. Fixes (taskOf (now (task .entry))) (now (prohibitions .entry)) (taskOf u)) ⌝ }
 {

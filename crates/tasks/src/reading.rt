@@ -61,7 +61,11 @@ fn read_head(bytes: &[u8]) -> Result<Head, Fault>
     if pairs < 1 || pairs > 4096 {
         return Err(Fault::Range);
     }
-    Ok(Head { trains, paths, pairs })
+    Ok(Head {
+        trains,
+        paths,
+        pairs,
+    })
 }
 
 fn pair_in(bytes: &[u8]) -> Pair
@@ -94,7 +98,10 @@ fn check_pairs(head: Head, bytes: &[u8]) -> Result<(), Fault>
     ensures { λ r. ⌜ looks r ≡ readPairs (head .trains) (head .pairs) (now (bytes .entry)) ⌝ }
 {
     let mut rest = bytes;
-    let mut last = Pair { first: 0, second: 0 };
+    let mut last = Pair {
+        first: 0,
+        second: 0,
+    };
     for _i in 0..head.pairs {
         last = read_pair(head.trains, last, rest)?;
         rest = &rest[4..];
@@ -105,7 +112,11 @@ fn check_pairs(head: Head, bytes: &[u8]) -> Result<(), Fault>
 fn end(rest: &[u8]) -> Result<(), Fault>
     ensures { λ r. ⌜ looks r ≡ ends (now (rest .entry)) ⌝ }
 {
-    if rest.is_empty() { Ok(()) } else { Err(Fault::Shape) }
+    if rest.is_empty() {
+        Ok(())
+    } else {
+        Err(Fault::Shape)
+    }
 }
 
 fn check_task(bytes: &[u8]) -> Result<Head, Fault>

@@ -9,10 +9,11 @@ unfolding apart
 pairs-holds c = (refl, refl)
 
 pub pairs-again : need.pairs-again
-pairs-again c =
-    (c .pairs .inv .0,
-      fit-more (taskOf (c .args .task .now)) (planOf (c .args .plan .now)) _ _ (c .deref-pair-items .ensures .value) _ _ (c .pairs-test .taken) (c .pairs .inv .1)
-      (λ e. c .if-path-of .left (c .path-of .ensures ∙ (e ∙ sym (c .path-of-in-pairs .ensures)))))
+pairs-again c = (
+  c .pairs .inv .0,
+  fit-more (taskOf (c .args .task .now)) (planOf (c .args .plan .now)) _ _ (c .deref-pair-items .ensures .value) _ _ (c .pairs-test .taken) (c .pairs .inv .1)
+      (λ e. c .if-path-of .left (c .path-of .ensures ∙ (e ∙ sym (c .path-of-in-pairs .ensures)))),
+)
 
 pub returns-after-pairs : need.returns-after-pairs
 returns-after-pairs c =

@@ -18,9 +18,10 @@ returns-in-Break-pairs c =
     let t = taskOf (c .args .task .now) in
     let bs = c .args .prohibitions .now in
     rw (p .1, p .2)
-    (record
-      { answer = elim (c .in-Break-pairs .ensures tt) [ inl h ↦ inl (ap (λ f. refused (number f)) (h .0) ∙ too-many t bs (h .1)) | inr h ↦ inr (ap Err h) ];
-        fixes = tt })
+    (record {
+      answer = elim (c .in-Break-pairs .ensures tt) [ inl h ↦ inl (ap (λ f. refused (number f)) (h .0) ∙ too-many t bs (h .1)) | inr h ↦ inr (ap Err h) ];
+      fixes = tt;
+    })
 
 pub ghost-result : need.ghost-result
 ghost-result c =
@@ -35,6 +36,7 @@ returns c =
     let t = c .args .task .now in
     let bs = c .args .prohibitions .now in
     let v = c .in-Continue-pairs .pairs in
-    record
-      { answer = inl (build-answer t bs v (c .if-trains-gt1024 .left) (c .in-Continue-pairs .ensures tt));
-        fixes = build-fixes t bs v (c .if-trains-gt1024 .left) (c .in-Continue-pairs .ensures tt) }
+    record {
+      answer = inl (build-answer t bs v (c .if-trains-gt1024 .left) (c .in-Continue-pairs .ensures tt));
+      fixes = build-fixes t bs v (c .if-trains-gt1024 .left) (c .in-Continue-pairs .ensures tt);
+    }
