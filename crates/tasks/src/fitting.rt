@@ -28,5 +28,8 @@ pub fn first_unfit(task: &Task, plan: &Plan) -> Option<Unfit>
 fn path_of(plan: &Plan, train: u16) -> u8
     ensures { λ r. ⌜ r ≡ at (planOf (now (plan .entry))) train ⌝ }
 {
-    plan.paths.get(train as usize).copied().unwrap_or(0)
+    match plan.paths.get(train as usize) {
+        Some(path) => *path,
+        None => 0,
+    }
 }

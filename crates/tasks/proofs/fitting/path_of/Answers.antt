@@ -1,6 +1,6 @@
 use borrow.Author.Needs.{needs}
-use Rattle.std.proofs.shelf.Lists.{getD-past, getD-default}
+use Rattle.std.proofs.shelf.Lists.{getD-past}
 use Rattle.tasks.proofs.fitting.path_of.Needs as need
 
-pub returns : need.returns
-returns c = search (needs, getD-past, getD-default)
+pub returns-in-None : need.returns-in-None
+returns-in-None c = search (needs, getD-past)
