@@ -7,10 +7,3 @@ pub mod PlanLaws
 pub mod Mapped
 pub mod Writes
 pub mod Fits
-pub mod Placing
-pub mod Pigeon
-pub mod Puts
-pub mod Places
-pub mod Prohibits
-pub mod Adding
-pub mod Building

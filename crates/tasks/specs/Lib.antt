@@ -6,6 +6,4 @@ pub mod Reading
 pub mod Head
 pub mod Writing
 pub mod Fitting
-pub mod Prohibiting
-pub mod Putting
 pub mod Rounds

@@ -1,9 +1,8 @@
-// Tasks and plans as bytes, read exactly or refused by a fault; the first pair that a plan fails; tasks with prohibitions.
+// Tasks and plans as bytes, read exactly or refused by a fault; and the first pair that a plan fails.
 mod fault;
 mod fitting;
 mod pair;
 mod plan;
-mod prohibiting;
 mod reading;
 mod rounds;
 mod task;
@@ -17,8 +16,6 @@ pub use fault::Unfit;
 pub use fitting::first_unfit;
 pub use pair::Pair;
 pub use plan::Plan;
-pub use prohibiting::Prohibition;
-pub use prohibiting::with_prohibitions;
 pub use reading::read_plan;
 pub use reading::read_task;
 pub use rounds::Rounds;

@@ -9,9 +9,11 @@ pub struct Pair {
     pub second: u16,
 }
 
-// The order of pairs.
-pub(crate) fn before(x: Pair, y: Pair) -> bool
-    ensures { λ r. ⌜ r ≡ before (pairOf x) (pairOf y) ⌝ }
-{
-    x.first < y.first || (x.first == y.first && x.second < y.second)
+impl Pair {
+    // The order of pairs: by the first train, then by the second.
+    pub fn before(self, other: Pair) -> bool
+        ensures { λ r. ⌜ r ≡ before (pairOf self) (pairOf other) ⌝ }
+    {
+        self.first < other.first || (self.first == other.first && self.second < other.second)
+    }
 }

@@ -14,7 +14,6 @@ ghost use Rattle.tasks.specs.Writing.{Inverse, taskBytes, planBytes, isPlan};
 use super::fault::Fault;
 use super::fault::FaultFromAlloc;
 use super::pair::Pair;
-use super::pair::before;
 use super::plan::Plan;
 use super::task::Task;
 use std::alloc::AllocError;
@@ -88,7 +87,7 @@ fn read_pair(trains: u16, last: Pair, bytes: &[u8]) -> Result<Pair, Fault>
     if pair.first >= trains || pair.second >= trains {
         return Err(Fault::Range);
     }
-    if pair.first >= pair.second || !before(last, pair) {
+    if pair.first >= pair.second || !last.before(pair) {
         return Err(Fault::Order);
     }
     Ok(pair)

@@ -1,0 +1,2 @@
+pub mod Prohibiting
+pub mod Putting
