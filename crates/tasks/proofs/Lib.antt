@@ -7,3 +7,4 @@ pub mod PlanLaws
 pub mod Mapped
 pub mod Writes
 pub mod Fits
+pub mod Fronts

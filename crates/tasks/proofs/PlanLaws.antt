@@ -16,7 +16,7 @@ use Rattle.tasks.proofs.Units.{unit-got, then-got, ends-got, unit-good, unit-c
 use Rattle.tasks.proofs.Words.{word-back, word-high, word-low}
 use Rattle.tasks.proofs.PairLaws.{word-sees}
 
-paths-sound : (k : ℕ) (last : Looked) (m : ℕ) (bs : List ℕ) (y : Looked) → readEach (readPath k) 1 last m bs ≡ got y → (allBelow k bs ≡ true) × (length bs ≡ m)
+pub paths-sound : (k : ℕ) (last : Looked) (m : ℕ) (bs : List ℕ) (y : Looked) → readEach (readPath k) 1 last m bs ≡ got y → (allBelow k bs ≡ true) × (length bs ≡ m)
 unfolding readEach allBelow
 paths-sound k last zero [] y e = (refl, refl)
 paths-sound k last zero (b ∷ bs) y e = absurd (omega (arith, ends-got (b ∷ bs) y e))
@@ -37,7 +37,7 @@ paths-written k last (x ∷ xs) e =
     let g : readPath k last (x ∷ xs) ≡ got tt = unit-good (x ∷ xs) 1 (ltb x k) 2 (got tt) (omega arith) (p .0) in
     rw g (paths-written k tt xs (p .1))
 
-path-local : (k : ℕ) → Local 1 (readPath k)
+pub path-local : (k : ℕ) → Local 1 (readPath k)
 path-local k = record { sees = sees; needs = λ last bs h. unit-cut bs 1 (ltb (at bs 0) k) 2 (got tt) h }
   where
     sees : (last : Looked) (bs ys : List ℕ) → 1 ≤ length bs → readPath k last (bs ++ ys) ≡ readPath k last bs

@@ -18,6 +18,12 @@ use Rattle.tasks.proofs.Units.{unit-got, then-got, unit-good, unit-prefix, eac
 use Rattle.tasks.proofs.Words.{word-back, word-high, word-low}
 use Rattle.tasks.proofs.PairLaws.{pairs-sound, pairs-written, pairs-only, pair-local, word-sees}
 
+within-least : (low high x : ℕ) → within low high x ≡ true → low ≤ x
+within-least low high x e = leb-true low x (and-parts (leb low x) (leb x high) e .0)
+
+within-most : (low high x : ℕ) → within low high x ≡ true → x ≤ high
+within-most low high x e = leb-true x high (and-parts (leb low x) (leb x high) e .1)
+
 abbrev headIn : List ℕ → Head
 headIn bs = record { trains = wordAt bs 1; paths = at bs 3; pairs = wordAt bs 4 }
 
@@ -36,6 +42,9 @@ head-parts bs h e =
     let r = unit-got bs 4 _ 2 _ h (q .2) in
     let s = unit-got bs 6 _ 2 (got (headIn bs)) h (r .2) in
     (record { there = s .0; kind = p .1; trains = q .1; paths = r .1; pairs = s .1 }, cc (s .2))
+
+pub head-few : (bs : List ℕ) (h : Head) → readHead bs ≡ got h → h .pairs ≤ 4096
+head-few bs h e = let p = head-parts bs h e in omega (arith, within-most 1 4096 (wordAt bs 4) (p .0 .pairs), ap (λ (x : Head). x .pairs) (p .1))
 
 head-made : (bs : List ℕ) → HeadIs bs → readHead bs ≡ got (headIn bs)
 head-made bs i =
@@ -137,12 +146,6 @@ task-only bs t b e =
     let l = length-from (wordAt bs 4) (drop 6 bs) in
     let f : List ℕ → ℕ → List ℕ = λ ys m. headBytes (wordAt bs 1) (at bs 3) m ++ ys in
     (task-sound bs t e, h .0 ∙ (ap (λ ys. f ys (wordAt bs 4)) (sym d) ∙ (ap (f _) (sym l) ∙ ap taskBytes (p .2))))
-
-within-least : (low high x : ℕ) → within low high x ≡ true → low ≤ x
-within-least low high x e = leb-true low x (and-parts (leb low x) (leb x high) e .0)
-
-within-most : (low high x : ℕ) → within low high x ≡ true → x ≤ high
-within-most low high x e = leb-true x high (and-parts (leb low x) (leb x high) e .1)
 
 same-task : (t : Task) (n k : ℕ) (xs : List Pair) → n ≡ t .trains → k ≡ t .paths → xs ≡ t .pairs → record { trains = n; paths = k; pairs = xs } ≡ t
 same-task t n k xs e f g = rw (e, f, g) refl

@@ -3,9 +3,9 @@ use mathlib.Core.Path.{_≡_}
 use mathlib.Core.Bool.{Bool, cond, _&&_}
 use mathlib.Core.List.{List, [], _∷_}
 use mathlib.Core.Logic.{_⊎_}
-use Prim.Native.Nat.{ℕ, zero, suc, _+_, _*_}
+use Prim.Native.Nat.{ℕ, zero, suc, _+_, _*_, _<_}
 use lib.Dec.{eqb, ltb, leb}
-use lib.ListN.{length, drop}
+use lib.ListN.{length, take, drop}
 use Rattle.std.specs.declared.result.Result.{Result}
 use Rattle.std.specs.declared.result.Result.the-variants.{Ok, Err}
 use Rattle.paths.specs.Plan.{Pair, Task, Plan, at}
@@ -43,6 +43,10 @@ readEach one w last (suc m) bs = andThen (one last bs) (λ x. readEach one w x m
 -- two bytes, high byte first
 abbrev pub wordAt : List ℕ → ℕ → ℕ
 wordAt bs i = at bs i * 256 + at bs (i + 1)
+
+-- of more than `most` bytes it tells the same however many are looked at
+abbrev pub Sees : {A : Type 0} → ℕ → (List ℕ → Got A) → Type 0
+Sees most read = (n : ℕ) → most < n → (bs : List ℕ) → read (take n bs) ≡ read bs
 
 -- Task: 1, n (2), k (1), m (2), pairs (2, 2 each)
 

@@ -8,7 +8,7 @@ ghost use Rattle.std.specs.Vec.{made};
 ghost use Rattle.tasks.specs.Model.{taskOf, planOf};
 ghost use Rattle.tasks.specs.Pair.{pairOf};
 ghost use Rattle.tasks.specs.Head.{headOf};
-ghost use Rattle.tasks.specs.Reading.{Meets, gives, readHead, readPair, taskIn, readPairs, pairIn, pairsFrom, readPath, readPaths, readPlanHead, readPlan, readTask, ends, looks};
+ghost use Rattle.tasks.specs.Reading.{Meets, Sees, gives, readHead, readPair, taskIn, readPairs, pairIn, pairsFrom, readPath, readPaths, readPlanHead, readPlan, readTask, ends, looks};
 ghost use Rattle.tasks.specs.Task.{sound};
 ghost use Rattle.tasks.specs.Writing.{Inverse, taskBytes, planBytes, isPlan};
 use super::fault::Fault;
@@ -190,6 +190,7 @@ pub fn read_task(heap: Global, bytes: &[u8]) -> Result<Task, Fault>
     ensures answer { λ r. ⌜ Meets taskOf r (readTask (now (bytes .entry))) ⌝ }
     ensures written { λ r. ⌜ made r (λ t. taskBytes (taskOf t) ≡ now (bytes .entry)) ⌝ }
     ensures law { λ _. ⌜ Inverse readTask taskBytes sound ⌝ }
+    ensures front { λ _. ⌜ Sees 16390 readTask ⌝ }
 {
     let head = check_task(bytes)?;
     let pairs = collect_pairs(heap, head.pairs, &bytes[6..])?;
@@ -205,6 +206,7 @@ pub fn read_plan(heap: Global, task: &Task, bytes: &[u8]) -> Result<Plan, Fault>
     ensures answer { λ r. ⌜ Meets planOf r (readPlan (taskOf (now (task .entry))) (now (bytes .entry))) ⌝ }
     ensures written { λ r. ⌜ made r (λ p. planBytes (planOf p) ≡ now (bytes .entry)) ⌝ }
     ensures law { λ _. ⌜ Inverse (readPlan (taskOf (now (task .entry)))) planBytes (isPlan (taskOf (now (task .entry)))) ⌝ }
+    ensures front { λ _. ⌜ Sees 1027 (readPlan (taskOf (now (task .entry)))) ⌝ }
 {
     check_plan(task, bytes)?;
     let paths = Vec::from_slice(heap, &bytes[3..])?;
