@@ -1,9 +1,11 @@
 // Whether a plan fits a task: the first pair that it fails.
 ghost use mathlib.Core.Path.{_≡_};
+ghost use lib.Dec.{eqb};
 ghost use Rattle.paths.specs.Plan.{at};
 ghost use Rattle.tasks.specs.Fitting.{FirstUnfit};
 ghost use Rattle.tasks.specs.Model.{taskOf, planOf};
 use super::fault::Unfit;
+use super::pair::Pair;
 use super::plan::Plan;
 use super::task::Task;
 
@@ -13,7 +15,7 @@ pub fn first_unfit(task: &Task, plan: &Plan) -> Option<Unfit>
 {
     let mut found = None;
     'pairs: for (i, pair) in task.pairs.iter().enumerate() {
-        if path_of(plan, pair.first) == path_of(plan, pair.second) {
+        if fails(plan, *pair) {
             found = Some(Unfit {
                 pair: i as u16,
                 first: pair.first,
@@ -23,6 +25,12 @@ pub fn first_unfit(task: &Task, plan: &Plan) -> Option<Unfit>
         }
     }
     found
+}
+
+fn fails(plan: &Plan, pair: Pair) -> bool
+    ensures { λ r. ⌜ r ≡ eqb (at (planOf (now (plan .entry))) (pair .first)) (at (planOf (now (plan .entry))) (pair .second)) ⌝ }
+{
+    path_of(plan, pair.first) == path_of(plan, pair.second)
 }
 
 fn path_of(plan: &Plan, train: u16) -> u8
