@@ -10,10 +10,11 @@ unfolding apart
 pairs-holds c = (refl, refl)
 
 pub pairs-again : need.pairs-again
-pairs-again c =
-    (c .pairs .inv .0,
-      fit-more (taskOf (c .args .task .now)) (planOf (c .args .plan .now)) _ _ (c .deref-pair-items .ensures .value) _ _ (c .pairs-test .taken) (c .pairs .inv .1)
-      (eqb-false _ _ (sym (c .if-fails .ensures tt))))
+pairs-again c = (
+  c .pairs .inv .0,
+  fit-more (taskOf (c .args .task .now)) (planOf (c .args .plan .now)) _ _ (c .deref-pair-items .ensures .value) _ _ (c .pairs-test .taken) (c .pairs .inv .1)
+      (eqb-false _ _ (sym (c .if-fails .ensures tt))),
+)
 
 pub returns-after-pairs : need.returns-after-pairs
 returns-after-pairs c =

@@ -1,0 +1,12 @@
+use borrow.Author.Needs.{needs}
+use Rattle.command.proofs.Places.{place-more, place-here, place-end}
+use Rattle.command.proofs.arguments.Arguments.place_of.Needs as need
+
+pub returns-then-eq : need.returns-then-eq
+returns-then-eq c = search (needs, place-here)
+
+pub loop-i-again : need.loop-i-again
+loop-i-again c = search (needs, place-more)
+
+pub returns : need.returns
+returns c = search (needs, place-end)
