@@ -1,8 +1,10 @@
 // The asker: in each round it asks the planner for a pair, and sees that the two trains have different paths.
-use command::Arguments;
+use arguments::Arguments;
+use arguments::Wrong;
 use command::Problem;
 use command::ProblemFromAlloc;
 use command::ProblemFromIo;
+use command::ProblemFromWrong;
 use command::finish;
 use command::load_task;
 use command::open;
@@ -31,7 +33,7 @@ struct Options {
     progress: bool,
 }
 
-fn read_options(mut arguments: Arguments) -> Result<Options, Problem> {
+fn read_options(mut arguments: Arguments) -> Result<Options, Wrong> {
     let options = Options {
         task: arguments.need("--task")?,
         drawn: arguments.need("--drawn")?,

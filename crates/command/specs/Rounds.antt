@@ -19,7 +19,7 @@ use Rattle.tasks.specs.Rounds.{askedRounds}
 use Rattle.tasks.specs.Task.{within}
 use Rattle.command.specs.declared.problem.Problem.{Problem}
 use Rattle.command.specs.declared.problem.Problem.the-variants.{Argument, File, Fault, InFile, Unfit, Stream, Memory, NotBuilt}
-use Rattle.command.specs.declared.problem.Wrong.the-variants.{Word}
+use Rattle.arguments.specs.declared.Wrong.the-variants.{Word}
 
 -- the number that digits write, after those of n; none where another byte stands
 unfoldable pub numberAfter : ℕ → List ℕ → Option ℕ

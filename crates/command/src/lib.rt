@@ -1,10 +1,8 @@
-// What the four programs share: the words of the command line, loading of files, and how a problem is told.
-mod arguments;
+// What the four programs share: loading of files, the number of rounds, and how a problem is told.
 mod files;
 mod problem;
 mod rounds;
 
-pub use arguments::Arguments;
 pub use files::LoadedTask;
 pub use files::load_fitting_plan;
 pub use files::load_task;
@@ -15,7 +13,6 @@ pub use problem::ProblemFromAlloc;
 pub use problem::ProblemFromFault;
 pub use problem::ProblemFromIo;
 pub use problem::ProblemFromRefused;
-pub use problem::Wrong;
-pub use problem::WrongDisplay;
+pub use problem::ProblemFromWrong;
 pub use problem::finish;
 pub use rounds::read_rounds;

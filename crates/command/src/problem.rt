@@ -1,6 +1,7 @@
 // Why a program ends with status 1, and how that is told.
 ghost use mathlib.Core.Path.{_≡_};
 ghost use Rattle.std.specs.Results.{isOk};
+use arguments::Wrong;
 use std::alloc::AllocError;
 use std::alloc::Refused;
 use std::fmt;
@@ -8,13 +9,6 @@ use std::io;
 use tasks::Fault;
 use tasks::FaultDisplay;
 use tasks::Unfit;
-
-// An argument that is wrong, or an option that is missing or has no value.
-#[derive(Drop)]
-pub enum Wrong {
-    Word(String),
-    Missing(&'static str),
-}
 
 #[derive(Drop)]
 pub enum Problem {
@@ -31,19 +25,11 @@ pub enum Problem {
     NotBuilt(&'static str),
 }
 
-pub impl fmt::Display for Wrong as WrongDisplay {
-    fn fmt<W: fmt::Write>(&self, f: &mut fmt::Formatter<W>) -> fmt::Result {
-        match self {
-            Wrong::Word(word) => write!(f, "wrong argument: {word}"),
-            Wrong::Missing(name) => write!(f, "missing argument: {name}"),
-        }
-    }
-}
-
 pub impl fmt::Display for Problem as ProblemDisplay {
     fn fmt<W: fmt::Write>(&self, f: &mut fmt::Formatter<W>) -> fmt::Result {
         match self {
-            Problem::Argument(wrong) => write!(f, "{wrong}"),
+            Problem::Argument(Wrong::Word(word)) => write!(f, "wrong argument: {word}"),
+            Problem::Argument(Wrong::Missing(name)) => write!(f, "missing argument: {name}"),
             Problem::File(name, error) => write!(f, "can't read {name}: {error}"),
             Problem::Fault(fault) => write!(f, "{fault}"),
             Problem::InFile(fault, name) => write!(f, "{fault}, in {name}"),
@@ -61,6 +47,12 @@ pub impl fmt::Display for Problem as ProblemDisplay {
             Problem::Memory => f.write_str("out of memory"),
             Problem::NotBuilt(what) => write!(f, "the files are good; {what} is not built yet"),
         }
+    }
+}
+
+pub impl From<Wrong> for Problem as ProblemFromWrong {
+    fn from(wrong: Wrong) -> Problem {
+        Problem::Argument(wrong)
     }
 }
 

@@ -4,7 +4,7 @@ ghost use Rattle.std.specs.Options.{mapped};
 ghost use Rattle.tasks.specs.Rounds.{askedRounds};
 ghost use Rattle.command.specs.Rounds.{asked, more, Heard};
 use super::problem::Problem;
-use super::problem::Wrong;
+use arguments::Wrong;
 use tasks::Rounds;
 
 // A digit more. A number above 2^24 is too large whatever follows, and stays.

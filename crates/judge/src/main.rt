@@ -1,11 +1,12 @@
 // The judge: from the words of a showing and its last digest it finds whether the showing was content.
 ghost use mathlib.Core.Path.{_≡_};
 ghost use Rattle.judge.specs.Digest.{isDigit, isDigest};
-use command::Arguments;
+use arguments::Arguments;
+use arguments::Wrong;
 use command::Problem;
 use command::ProblemFromAlloc;
 use command::ProblemFromIo;
-use command::Wrong;
+use command::ProblemFromWrong;
 use command::finish;
 use command::load_fitting_plan;
 use command::load_task;
@@ -40,16 +41,16 @@ struct Options {
 }
 
 // The plan and the drawn bytes come together, or not at all.
-fn read_handed_over(arguments: &mut Arguments) -> Result<Option<HandedOver>, Problem> {
+fn read_handed_over(arguments: &mut Arguments) -> Result<Option<HandedOver>, Wrong> {
     match (arguments.take("--plan"), arguments.take("--drawn")) {
         (None, None) => Ok(None),
         (Some(plan), Some(drawn)) => Ok(Some(HandedOver { plan, drawn })),
-        (Some(_), None) => Err(Problem::Argument(Wrong::Missing("--drawn"))),
-        (None, Some(_)) => Err(Problem::Argument(Wrong::Missing("--plan"))),
+        (Some(_), None) => Err(Wrong::Missing("--drawn")),
+        (None, Some(_)) => Err(Wrong::Missing("--plan")),
     }
 }
 
-fn read_options(mut arguments: Arguments) -> Result<Options, Problem> {
+fn read_options(mut arguments: Arguments) -> Result<Options, Wrong> {
     let options = Options {
         task: arguments.need("--task")?,
         words: arguments.need("--words")?,

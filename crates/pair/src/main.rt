@@ -1,8 +1,10 @@
 // The pair: from the coins of one plan it makes coins of another plan that give the same words.
-use command::Arguments;
+use arguments::Arguments;
+use arguments::Wrong;
 use command::Problem;
 use command::ProblemFromAlloc;
 use command::ProblemFromIo;
+use command::ProblemFromWrong;
 use command::finish;
 use command::load_fitting_plan;
 use command::load_task;
@@ -28,7 +30,7 @@ struct Options {
     asked: String,
 }
 
-fn read_options(mut arguments: Arguments) -> Result<Options, Problem> {
+fn read_options(mut arguments: Arguments) -> Result<Options, Wrong> {
     let options = Options {
         task: arguments.need("--task")?,
         first: arguments.need("--first")?,

@@ -1,8 +1,10 @@
 // The planner: it has a plan that fits the task, and shows that to an asker in rounds.
-use command::Arguments;
+use arguments::Arguments;
+use arguments::Wrong;
 use command::Problem;
 use command::ProblemFromAlloc;
 use command::ProblemFromIo;
+use command::ProblemFromWrong;
 use command::finish;
 use command::load_fitting_plan;
 use command::load_task;
@@ -34,7 +36,7 @@ struct Options {
     progress: bool,
 }
 
-fn read_options(mut arguments: Arguments) -> Result<Options, Problem> {
+fn read_options(mut arguments: Arguments) -> Result<Options, Wrong> {
     let options = Options {
         task: arguments.need("--task")?,
         plan: arguments.need("--plan")?,

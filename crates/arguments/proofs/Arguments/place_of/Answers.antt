@@ -1,6 +1,6 @@
 use borrow.Author.Needs.{needs}
-use Rattle.command.proofs.Places.{place-more, place-here, place-end}
-use Rattle.command.proofs.arguments.Arguments.place_of.Needs as need
+use Rattle.arguments.proofs.Places.{place-more, place-here, place-end}
+use Rattle.arguments.proofs.Arguments.place_of.Needs as need
 
 pub returns-then-eq : need.returns-then-eq
 returns-then-eq c = search (needs, place-here)

@@ -1,6 +1,6 @@
 use borrow.Author.Needs.{needs}
-use Rattle.command.proofs.Places.{removed-twice}
-use Rattle.command.proofs.arguments.Arguments.take.Needs as need
+use Rattle.arguments.proofs.Places.{removed-twice}
+use Rattle.arguments.proofs.Arguments.take.Needs as need
 
 pub returns : need.returns
 returns c = rw (← c .place-of-place .ensures .place) (search (needs, removed-twice))

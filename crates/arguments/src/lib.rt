@@ -1,12 +1,17 @@
-// The words of the command line.
+// The words of the command line, taken one option after the other.
 ghost use mathlib.Core.Path.{_≡_};
 ghost use Rattle.std.specs.Of.Vec.{vec-items, vec-len};
 ghost use Rattle.std.specs.Results.{okPart};
 ghost use Prim.Native.Nat.{_≤_};
 ghost use lib.ListN.{drop};
-ghost use Rattle.command.specs.Words.{placeOf, Taken, Struck, ending};
-use super::problem::Problem;
-use super::problem::Wrong;
+ghost use Rattle.arguments.specs.Words.{placeOf, Taken, Struck, ending};
+
+// A word that is wrong, or an option that is missing or has no value.
+#[derive(Drop)]
+pub enum Wrong {
+    Word(String),
+    Missing(&'static str),
+}
 
 // The words after the program's name that were not taken yet.
 #[derive(Drop)]
@@ -51,12 +56,12 @@ impl Arguments {
     }
 
     // The same of an option that must be there.
-    pub fn need(&mut self, name: &'static str) -> Result<String, Problem>
+    pub fn need(&mut self, name: &'static str) -> Result<String, Wrong>
         ensures { λ r. ⌜ Taken (now (name .entry)) (vec-items (now (self .entry) .words)) (vec-items (now (self .exit) .words)) (okPart r) ⌝ }
     {
         match self.take(name) {
             Some(value) => Ok(value),
-            None => Err(Problem::Argument(Wrong::Missing(name))),
+            None => Err(Wrong::Missing(name)),
         }
     }
 
@@ -73,12 +78,12 @@ impl Arguments {
     }
 
     // A word that nothing took is wrong.
-    pub fn end(mut self) -> Result<(), Problem>
+    pub fn end(mut self) -> Result<(), Wrong>
         ensures { λ r. ⌜ r ≡ ending (vec-items (self .words)) ⌝ }
     {
         if self.words.is_empty() {
             return Ok(());
         }
-        Err(Problem::Argument(Wrong::Word(self.words.remove(0))))
+        Err(Wrong::Word(self.words.remove(0)))
     }
 }

@@ -12,7 +12,7 @@ use Rattle.std.specs.Holes.{removed}
 use Rattle.std.specs.shelf.Text.{sameBytes}
 use Rattle.std.proofs.shelf.Equals.{sameBytes-decides}
 use Rattle.std.proofs.shelf.Lists.{drop-more, drop-all, take-all}
-use Rattle.command.specs.Words.{placeOf}
+use Rattle.arguments.specs.Words.{placeOf}
 
 not-true : (b : Bool) → (b ≡ true → ⊥) → b ≡ false
 not-true true h = absurd (h refl)

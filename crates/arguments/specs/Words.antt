@@ -13,9 +13,8 @@ use Rattle.std.specs.declared.string.String.{String}
 use Rattle.std.specs.Of.String.{string-bytes}
 use Rattle.std.specs.Options.{Cases}
 use Rattle.std.specs.shelf.Text.{sameBytes}
-use Rattle.command.specs.declared.problem.Problem.{Problem}
-use Rattle.command.specs.declared.problem.Problem.the-variants.{Argument}
-use Rattle.command.specs.declared.problem.Wrong.the-variants.{Word}
+use Rattle.arguments.specs.declared.Wrong.{Wrong}
+use Rattle.arguments.specs.declared.Wrong.the-variants.{Word}
 
 -- the first place at which a word stands, or the number of words
 unfoldable pub placeOf : List ℕ → List (String Global) → ℕ
@@ -38,6 +37,6 @@ abbrev pub Struck : List ℕ → List (String Global) → List (String Global) �
 Struck name old new r = (r ≡ ltb (placeOf name old) (length old)) × (new ≡ without 1 name old)
 
 -- nothing may be left; the first word that is left is told
-abbrev pub ending : List (String Global) → Result (Unit {0}) Problem
+abbrev pub ending : List (String Global) → Result (Unit {0}) Wrong
 ending [] = Ok tt
-ending (w ∷ ws) = Err (Argument (Word w))
+ending (w ∷ ws) = Err (Word w)
