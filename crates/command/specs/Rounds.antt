@@ -18,7 +18,7 @@ use Rattle.tasks.specs.Reading.{Got, got, refused}
 use Rattle.tasks.specs.Rounds.{askedRounds}
 use Rattle.tasks.specs.Task.{within}
 use Rattle.command.specs.declared.problem.Problem.{Problem}
-use Rattle.command.specs.declared.problem.Problem.the-variants.{Argument, File, Fault, InFile, Unfit, Stream, Memory, NotBuilt}
+use Rattle.command.specs.declared.problem.Problem.the-variants.{Argument, File, Fault, InFile, InRound, Unfit, Stream, Memory, NotBuilt}
 use Rattle.arguments.specs.declared.Wrong.the-variants.{Word}
 
 -- the number that digits write, after those of n; none where another byte stands
@@ -44,6 +44,7 @@ Told text (Argument w) = (w ≡ Word text) × (asked (string-bytes text) ≡ Non
 Told text (File n e) = ⊥
 Told text (Fault f) = asked (string-bytes text) ≡ Some (refused (number f))
 Told text (InFile f n) = ⊥
+Told text (InRound f r n) = ⊥
 Told text (Unfit u n) = ⊥
 Told text (Stream e) = ⊥
 Told text Memory = ⊥

@@ -17,6 +17,7 @@ pub enum Problem {
     File(String, io::Error),
     Fault(Fault),
     InFile(Fault, String),
+    InRound(Fault, u32, String),
     // A plan that fails a pair, told with the pair.
     Unfit(Unfit, String),
     Stream(io::Error),
@@ -33,6 +34,7 @@ pub impl fmt::Display for Problem as ProblemDisplay {
             Problem::File(name, error) => write!(f, "can't read {name}: {error}"),
             Problem::Fault(fault) => write!(f, "{fault}"),
             Problem::InFile(fault, name) => write!(f, "{fault}, in {name}"),
+            Problem::InRound(fault, round, name) => write!(f, "{fault}, round {round}, in {name}"),
             Problem::Unfit(unfit, name) => {
                 let fault = Fault::Unfit(*unfit);
                 let pair = unfit.pair;

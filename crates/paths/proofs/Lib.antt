@@ -1,1 +1,14 @@
 pub mod Grow
+pub mod Rows
+pub mod Beta
+pub mod Paired
+pub mod Coins
+pub mod Seen
+pub mod Alike
+pub mod Content
+pub mod Counts
+pub mod Caught
+pub mod Main
+pub mod Misses
+pub mod Once
+pub mod Partnered

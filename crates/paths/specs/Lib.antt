@@ -2,3 +2,11 @@ pub mod Plan
 pub mod Show
 pub mod Cheat
 pub mod Promise
+pub mod Pairing
+pub mod Paired
+pub mod Stop
+pub mod Clip
+pub mod Count
+pub mod Misses
+pub mod Order
+pub mod Partners

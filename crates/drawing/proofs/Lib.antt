@@ -1,0 +1,13 @@
+pub mod Rounds
+pub mod Tests
+pub mod Sums
+pub mod Counts
+pub mod Turns
+pub mod Bytes
+pub mod Aiming
+pub mod Exchanges
+pub mod Orders
+pub mod Joins
+pub mod Even
+pub mod Showings
+pub mod Examples

@@ -1,0 +1,3 @@
+pub mod Enough
+pub mod Drawing
+pub mod Uniform

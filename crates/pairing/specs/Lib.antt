@@ -1,0 +1,4 @@
+pub mod Plans
+pub mod Pairs
+pub mod Asking
+pub mod Coins
