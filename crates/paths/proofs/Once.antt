@@ -10,7 +10,7 @@ use native.Mathlib.Omega.{arith}
 use Rattle.std.proofs.shelf.Lists.{getD-set-same, getD-set-other, getD-replicate, length-replicate, length-set, drop-all, drop-more}
 use Rattle.std.proofs.shelf.Tests.{cases-eq, eq-eqb, ne-eqb, and-parts, and-from, and-left, and-right, lt-ltb, le-ltb, not-from-false, cases-bool, both-ways}
 use Rattle.paths.specs.Plan.{allBelow, isIn, different}
-use Rattle.paths.specs.Order.{isRow}
+use Rattle.paths.specs.Order.{noneTwice}
 
 -- the table tells of each number below 64 whether it is in the list
 abbrev pub Met : List Bool → List ℕ → Type 0
@@ -26,36 +26,36 @@ met-more met x xs l m v h =
 
 -- one number before a row
 module _ (n x : ℕ) (xs : List ℕ) where
-  row-more : isRow n xs ≡ true → x < n → isIn x xs ≡ false → isRow n (x ∷ xs) ≡ true
+  row-more : noneTwice n xs ≡ true → x < n → isIn x xs ≡ false → noneTwice n (x ∷ xs) ≡ true
   unfolding different allBelow
   row-more r l m =
       let p = and-parts (different xs) (allBelow n xs) r in
       and-from _ _ (and-from _ _ (not-from-false (isIn x xs) m) (p .0)) (and-from _ _ (lt-ltb x n l) (p .1))
 
-  row-past : n ≤ x → isRow n (x ∷ xs) ≡ false
+  row-past : n ≤ x → noneTwice n (x ∷ xs) ≡ false
   unfolding different allBelow
   row-past l = and-right _ _ (and-left _ _ (le-ltb x n l))
 
-  row-twice : isIn x xs ≡ true → isRow n (x ∷ xs) ≡ false
+  row-twice : isIn x xs ≡ true → noneTwice n (x ∷ xs) ≡ false
   unfolding different allBelow
   row-twice m = and-left _ _ (and-left _ _ (ap not m))
 
-  row-rest : isRow n (x ∷ xs) ≡ true → isRow n xs ≡ true
+  row-rest : noneTwice n (x ∷ xs) ≡ true → noneTwice n xs ≡ true
   unfolding different allBelow
   row-rest r =
       let p = and-parts (different (x ∷ xs)) (allBelow n (x ∷ xs)) r in
       and-from _ _ (and-parts (not (isIn x xs)) (different xs) (p .0) .1) (and-parts (ltb x n) (allBelow n xs) (p .1) .1)
 
 -- what is no row from some place on is no row
-rows-drop : (n i : ℕ) (xs : List ℕ) → isRow n xs ≡ true → isRow n (drop i xs) ≡ true
+rows-drop : (n i : ℕ) (xs : List ℕ) → noneTwice n xs ≡ true → noneTwice n (drop i xs) ≡ true
 rows-drop n zero xs r = r
 rows-drop n (suc i) [] r = r
 rows-drop n (suc i) (x ∷ xs) r = rows-drop n i xs (row-rest n x xs r)
 
-row-fails : (n i : ℕ) (xs : List ℕ) → isRow n (drop i xs) ≡ false → isRow n xs ≡ false
+row-fails : (n i : ℕ) (xs : List ℕ) → noneTwice n (drop i xs) ≡ false → noneTwice n xs ≡ false
 row-fails n i xs f =
-    elim (cases-bool (isRow n xs)) [
-      | inl r ↦ absurd (both-ways (isRow n (drop i xs)) f (rows-drop n i xs r))
+    elim (cases-bool (noneTwice n xs)) [
+      | inl r ↦ absurd (both-ways (noneTwice n (drop i xs)) f (rows-drop n i xs r))
       | inr r ↦ r
     ]
 
@@ -63,7 +63,7 @@ row-fails n i xs f =
 pub record Passed (met : List Bool) (n i : ℕ) (xs : List ℕ) : Type 0 where
   pub size : length met ≡ 64
   pub tells : Met met (drop i xs)
-  pub row : isRow n (drop i xs) ≡ true
+  pub row : noneTwice n (drop i xs) ≡ true
 
 pub passed-none : (met : List Bool) (n : ℕ) (xs : List ℕ) → met ≡ replicate 64 false → Passed met n (length xs) xs
 unfolding isIn different allBelow
@@ -72,7 +72,7 @@ passed-none met n xs e =
     record {
       size = ap length e ∙ length-replicate 64 false;
       tells = λ v l. ap (λ m. getD m v false) e ∙ (getD-replicate 64 v false false l ∙ ap (isIn v) (sym d));
-      row = ap (isRow n) d;
+      row = ap (noneTwice n) d;
     }
 
 module _ (met : List Bool) (i : ℕ) (xs : List ℕ) (few : length xs ≤ 64) (some : 0 < i) (there : i ≤ length xs) (p : Passed met (length xs) i xs) where
@@ -90,12 +90,12 @@ module _ (met : List Bool) (i : ℕ) (xs : List ℕ) (few : length xs ≤ 64) (s
         row = rw from-here (row-more (length xs) here (drop i xs) (p .row) l (sym (p .tells here (omega arith)) ∙ m));
       }
 
-  pub passed-high : length xs ≤ here → isRow (length xs) xs ≡ false
-  passed-high l = row-fails (length xs) (i - 1) xs (ap (isRow (length xs)) from-here ∙ row-past (length xs) here (drop i xs) l)
+  pub passed-high : length xs ≤ here → noneTwice (length xs) xs ≡ false
+  passed-high l = row-fails (length xs) (i - 1) xs (ap (noneTwice (length xs)) from-here ∙ row-past (length xs) here (drop i xs) l)
 
-  pub passed-twice : here < length xs → getD met here false ≡ true → isRow (length xs) xs ≡ false
+  pub passed-twice : here < length xs → getD met here false ≡ true → noneTwice (length xs) xs ≡ false
   passed-twice l m =
-      row-fails (length xs) (i - 1) xs (ap (isRow (length xs)) from-here ∙ row-twice (length xs) here (drop i xs) (sym (p .tells here (omega arith)) ∙ m))
+      row-fails (length xs) (i - 1) xs (ap (noneTwice (length xs)) from-here ∙ row-twice (length xs) here (drop i xs) (sym (p .tells here (omega arith)) ∙ m))
 
-pub passed-all : (met : List Bool) (n i : ℕ) (xs : List ℕ) → i ≤ 0 → Passed met n i xs → isRow n xs ≡ true
+pub passed-all : (met : List Bool) (n i : ℕ) (xs : List ℕ) → i ≤ 0 → Passed met n i xs → noneTwice n xs ≡ true
 passed-all met n i xs h p = let z : i ≡ 0 = omega arith in rw z at (p .row)

@@ -13,7 +13,7 @@ use Rattle.std.proofs.shelf.Tests.{and-parts, and-from, ltb-true, lt-ltb, not-t
 use Rattle.paths.specs.Plan.{Task, allBelow, apart, pairsIn, different, fits}
 use Rattle.paths.specs.Cheat.{upTo}
 use Rattle.paths.specs.Promise.{IsCoin}
-use Rattle.paths.specs.Order.{isRow}
+use Rattle.paths.specs.Order.{noneTwice}
 use Rattle.std.specs.declared.option.Option.the-variants.{Some}
 use Rattle.std.specs.Options.{whenTrue}
 use Rattle.paths.specs.Partners.{areTwo, pairedBy, paired}
@@ -55,7 +55,7 @@ unfolding allBelow apart
 duo-fits k t h = rw (lt-ltb _ _ (h .first), lt-ltb _ _ (h .second), ne-eqb _ _ (h .differ)) tt
 
 module _ (p : Partners) (xs : List ℕ) (from : areTwo (length xs) (p .from) ≡ true) (to : areTwo (length xs) (p .to) ≡ true) where
-  row-paired : isRow (length xs) xs ≡ true → isRow (length xs) (pairedBy p xs) ≡ true
+  row-paired : noneTwice (length xs) xs ≡ true → noneTwice (length xs) (pairedBy p xs) ≡ true
   unfolding pairsIn allBelow
   row-paired r =
       let f = two-says (length xs) (p .from) from in
@@ -68,12 +68,12 @@ module _ (p : Partners) (xs : List ℕ) (from : areTwo (length xs) (p .from) ≡
 
 -- of an order ys of k paths, which the code has as xs, and the numbers rs that it made
 module _ (p : Partners) (k : ℕ) (xs ys rs : List ℕ) (same : xs ≡ ys) (long : length xs ≡ k) (from : areTwo k (p .from) ≡ true) (to : areTwo k (p .to) ≡ true) (made : take (length xs) rs ≡ pairedBy p xs) where
-  pub still-row : isRow k ys ≡ true → isRow k (take k rs) ≡ true
+  pub still-row : noneTwice k ys ≡ true → noneTwice k (take k rs) ≡ true
   still-row r =
       let f = ap (λ j. areTwo j (p .from)) long ∙ from in
       let t = ap (λ j. areTwo j (p .to)) long ∙ to in
-      let q = row-paired p xs f t (ap (λ j. isRow j xs) long ∙ (ap (isRow k) same ∙ r)) in
-      ap (λ j. isRow k (take j rs)) (sym long) ∙ (ap (isRow k) made ∙ (ap (λ j. isRow j (pairedBy p xs)) (sym long) ∙ q))
+      let q = row-paired p xs f t (ap (λ j. noneTwice j xs) long ∙ (ap (noneTwice k) same ∙ r)) in
+      ap (λ j. noneTwice k (take j rs)) (sym long) ∙ (ap (noneTwice k) made ∙ (ap (λ j. noneTwice j (pairedBy p xs)) (sym long) ∙ q))
 
   pub is-paired : Some (take k rs) ≡ paired p ys
   is-paired =

@@ -8,11 +8,11 @@ use Rattle.paths.specs.declared.order.Order.{Order}
 use Rattle.paths.specs.Plan.{allBelow, different}
 
 -- none twice, and all below n
-abbrev pub isRow : ℕ → List ℕ → Bool
-isRow n xs = different xs && allBelow n xs
+abbrev pub noneTwice : ℕ → List ℕ → Bool
+noneTwice n xs = different xs && allBelow n xs
 
 abbrev pub isOrder : List ℕ → Bool
-isOrder xs = leb 1 (length xs) && leb (length xs) 64 && isRow (length xs) xs
+isOrder xs = leb 1 (length xs) && leb (length xs) 64 && noneTwice (length xs) xs
 
 -- an order of the code as a list
 abbrev pub orderOf : Order → List ℕ

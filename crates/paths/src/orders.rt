@@ -5,7 +5,7 @@ ghost use lib.Dec.{ltb};
 ghost use lib.ListN.{length, take};
 ghost use Rattle.std.specs.Options.{mapped, whenTrue};
 ghost use Rattle.paths.specs.Plan.{at};
-ghost use Rattle.paths.specs.Order.{isOrder, isRow, orderOf};
+ghost use Rattle.paths.specs.Order.{isOrder, noneTwice, orderOf};
 use super::order::Order;
 
 impl Order {
@@ -44,7 +44,7 @@ impl Order {
 // Is each of these bytes below their number, and none there twice?
 fn is_row(bytes: &[u8]) -> bool
     requires { ⌜ length (now bytes) ≤ 64 ⌝ }
-    ensures { λ r. ⌜ r ≡ isRow (length (now (bytes .entry))) (now (bytes .entry)) ⌝ }
+    ensures { λ r. ⌜ r ≡ noneTwice (length (now (bytes .entry))) (now (bytes .entry)) ⌝ }
 {
     let mut met = [false; 64];
     for i in (0..bytes.len()).rev() {

@@ -1,0 +1,8 @@
+-- The two tables are the same.
+use mathlib.Core.Path.{refl}
+use Rattle.sha256.specs.Sha256.{K}
+use Rattle.lanes.proofs.rounds.constant.Needs as need
+
+pub returns : need.returns
+unfolding K
+returns c = refl

@@ -1,0 +1,2 @@
+-- What a lane of eight messages holds.
+pub mod Lane
