@@ -10,10 +10,9 @@ use lib.Dec.{eqb, ltb, leb, T, ltb→lt}
 use Rattle.std.proofs.shelf.Ways.{tells}
 use lib.ListN.{length, replicate}
 use Rattle.std.proofs.shelf.Lists.{append-assoc}
-use Rattle.paths.specs.Plan.{allBelow}
 use Rattle.paths.specs.Cheat.{count, asks, before, upTo}
 use Rattle.drawing.specs.Drawing.{limit, Drawn, drew, short, more, draw, serve, inRange}
-use Rattle.drawing.specs.Uniform.{alike, such, howMany, ways, Ways, Rows, Once, allRows, Shares}
+use Rattle.drawing.specs.Uniform.{alike, such, howMany, ways, Ways, Rows, allRows, Shares}
 use Rattle.drawing.proofs.Tests.{first, second}
 use Rattle.drawing.proofs.Sums.{sumBelow, sum-same, sum-const, sum-times, sum-by-use, one}
 
@@ -128,21 +127,12 @@ once-step d s ds xs l h =
     turn : (v : ℕ) → cond (eqb d v) 1 0 * count (alike ds) xs ≡ cond (eqb v d) 1 0
     turn v = rw h (grind (arith, tells))
 
-pub once-in : (ss ds : List ℕ) → T (inRange ss ds) → count (alike ds) (allRows ss) ≡ 1
+once-in : (ss ds : List ℕ) → T (inRange ss ds) → count (alike ds) (allRows ss) ≡ 1
 unfolding inRange allRows count alike
 once-in [] [] h = refl
 once-in [] (d ∷ ds) h = absurd h
 once-in (s ∷ ss) [] h = absurd h
 once-in (s ∷ ss) (d ∷ ds) h = once-step d s ds (allRows ss) (ltb→lt d s (first (ltb d s) (inRange ss ds) h)) (once-in ss ds (second (ltb d s) (inRange ss ds) h))
-
-once-asked : (n : ℕ) (vs : List ℕ) → T (allBelow n vs) → count (alike vs) (asks n (length vs)) ≡ 1
-unfolding allBelow asks count alike
-once-asked n [] h = refl
-once-asked n (v ∷ vs) h =
-    once-step v n vs (asks n (length vs)) (ltb→lt v n (first (ltb v n) (allBelow n vs) h)) (once-asked n vs (second (ltb v n) (allBelow n vs) h))
-
-pub once : (n : ℕ) → Once n
-once n = record { each = once-asked n; all = count-all n }
 
 pub ways-are : (n : ℕ) → Ways n
 ways-are n ss g many ds h = shares n ss g (alike ds) many ∙ simp (once-in ss ds h) (omega arith)

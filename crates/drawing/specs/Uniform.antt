@@ -37,11 +37,6 @@ such p short = false
 abbrev pub howMany : ℕ → List ℕ → (List ℕ → Bool) → ℕ → ℕ
 howMany n ss p many = count (λ vs. such p (draw n ss vs)) (asks n many)
 
--- Rows of values are counted honestly: each row of so many values below n stands once among all of them, and they are n ^ many.
-pub record Once (n : ℕ) : Type 0 where
-  pub each : (vs : List ℕ) → T (allBelow n vs) → count (alike vs) (asks n (length vs)) ≡ 1
-  pub all : (many : ℕ) → count (λ _. true) (asks n many) ≡ n ^ many
-
 -- the number of rows of so many values that draw one row of numbers: by the first value, which is used in limit / s ways and passed over in n % s ways
 unfoldable pub ways : ℕ → List ℕ → ℕ → ℕ
 ways n [] many = n ^ many

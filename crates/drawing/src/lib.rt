@@ -1,8 +1,8 @@
 // How many rounds are enough, and that numbers, orders, questions and coins are drawn without favour: the definitions are in specs/, the proofs in proofs/.
 ghost use mathlib.Core.Path.{_≡_};
 ghost use Prim.Native.Nat.{_-_, _*_, _^_, _<_, _≤_};
-ghost use Rattle.drawing.specs.Enough.{Halves};
-ghost use Rattle.drawing.specs.Uniform.{Remainders, Once, Ways, Rows, Shares, InTurn, Bytes, Aims, AimsInTurn, Orders, Showings, EvenOrders, EvenQuestions, QuestionShares, EvenShowings};
+ghost use Rattle.drawing.specs.Enough.{Halves, Enough};
+ghost use Rattle.drawing.specs.Uniform.{Remainders, Ways, Rows, Shares, InTurn, Bytes, Aims, AimsInTurn, Orders, Showings, EvenOrders, EvenQuestions, QuestionShares, EvenShowings};
 
 // Forty for each pair.
 fn forty_for_each(pairs: u16) -> u32
@@ -18,6 +18,7 @@ pub fn default_rounds(pairs: u16) -> u32
     ensures most { λ r. ⌜ (pairs ≤ 4096 → r ≤ 163840) ⌝ }
     ensures enough { λ r. ⌜ (0 < pairs → 2 ^ 40 * (pairs - 1) ^ r ≤ pairs ^ r) ⌝ }
     ensures halves { λ _. ⌜ Halves ⌝ }
+    ensures always { λ _. ⌜ Enough ⌝ }
 {
     forty_for_each(pairs)
 }
@@ -29,7 +30,6 @@ pub fn rows_are_even()
     ensures ways { λ _. ⌜ Ways (2 ^ 32) ⌝ }
     ensures rows { λ _. ⌜ Rows (2 ^ 32) ⌝ }
     ensures shares { λ _. ⌜ Shares (2 ^ 32) ⌝ }
-    ensures once { λ _. ⌜ Once (2 ^ 32) ⌝ }
     ensures bytes { λ _. ⌜ Bytes ⌝ }
 {}
 

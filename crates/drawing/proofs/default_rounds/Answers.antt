@@ -6,4 +6,4 @@ use Rattle.drawing.proofs.default_rounds.Needs as need
 pub returns : need.returns
 returns c =
     let e = c .forty-for-each .ensures in
-    record { is = e; most = λ h. omega arith; enough = λ h. simp e (rounds.enough (c .args .pairs) h); halves = rounds.halves }
+    record { is = e; most = λ h. omega arith; enough = λ h. simp e (rounds.enough (c .args .pairs) h); halves = rounds.halves; always = rounds.enough }
