@@ -12,7 +12,8 @@ use lib.ListN.{length, replicate}
 use Rattle.std.proofs.shelf.Lists.{append-assoc}
 use Rattle.paths.specs.Cheat.{count, asks, before, upTo}
 use Rattle.drawing.specs.Drawing.{limit, Drawn, drew, short, more, draw, serve, inRange}
-use Rattle.drawing.specs.Uniform.{alike, such, howMany, ways, Ways, Rows, allRows, Shares}
+use Rattle.paths.specs.Count.{sameRow}
+use Rattle.drawing.specs.Uniform.{such, howMany, ways, Ways, Rows, allRows, Shares}
 use Rattle.drawing.proofs.Tests.{first, second}
 use Rattle.drawing.proofs.Sums.{sumBelow, sum-same, sum-const, sum-times, sum-by-use, one}
 
@@ -117,25 +118,24 @@ shares n (s ∷ ss) g p (suc many) =
     step n s ss p many (serve-first n s ss g) (λ q. shares n ss (serve-rest n s ss g) q many) (shares n (s ∷ ss) g p many)
 
 -- each row in range stands once among all of them
-once-step : (d s : ℕ) (ds : List ℕ) (xs : List (List ℕ)) → d < s → count (alike ds) xs ≡ 1 → count (alike (d ∷ ds)) (before (upTo s) xs) ≡ 1
-unfolding alike
+once-step : (d s : ℕ) (ds : List ℕ) (xs : List (List ℕ)) → d < s → count (sameRow ds) xs ≡ 1 → count (sameRow (d ∷ ds)) (before (upTo s) xs) ≡ 1
 once-step d s ds xs l h =
-    count-before (alike (d ∷ ds)) s xs
-    ∙ sum-same (λ v. count (λ x. eqb d v && alike ds x) xs) (λ v. cond (eqb v d) 1 0) s (λ v _. count-and (eqb d v) (alike ds) xs ∙ turn v)
+    count-before (sameRow (d ∷ ds)) s xs
+    ∙ sum-same (λ v. count (λ x. eqb d v && sameRow ds x) xs) (λ v. cond (eqb v d) 1 0) s (λ v _. count-and (eqb d v) (sameRow ds) xs ∙ turn v)
     ∙ one d s l
   where
-    turn : (v : ℕ) → cond (eqb d v) 1 0 * count (alike ds) xs ≡ cond (eqb v d) 1 0
+    turn : (v : ℕ) → cond (eqb d v) 1 0 * count (sameRow ds) xs ≡ cond (eqb v d) 1 0
     turn v = rw h (grind (arith, tells))
 
-once-in : (ss ds : List ℕ) → T (inRange ss ds) → count (alike ds) (allRows ss) ≡ 1
-unfolding inRange allRows count alike
+once-in : (ss ds : List ℕ) → T (inRange ss ds) → count (sameRow ds) (allRows ss) ≡ 1
+unfolding inRange allRows count
 once-in [] [] h = refl
 once-in [] (d ∷ ds) h = absurd h
 once-in (s ∷ ss) [] h = absurd h
 once-in (s ∷ ss) (d ∷ ds) h = once-step d s ds (allRows ss) (ltb→lt d s (first (ltb d s) (inRange ss ds) h)) (once-in ss ds (second (ltb d s) (inRange ss ds) h))
 
 pub ways-are : (n : ℕ) → Ways n
-ways-are n ss g many ds h = shares n ss g (alike ds) many ∙ simp (once-in ss ds h) (omega arith)
+ways-are n ss g many ds h = shares n ss g (sameRow ds) many ∙ simp (once-in ss ds h) (omega arith)
 
 pub rows : (n : ℕ) → Rows n
 rows n ss good many ds es h k = ways-are n ss good many ds h ∙ sym (ways-are n ss good many es k)

@@ -10,23 +10,22 @@ use lib.ListN.{replicate}
 use Rattle.paths.specs.Plan.{allBelow}
 use Rattle.paths.specs.Cheat.{count, asks}
 use Rattle.drawing.specs.Drawing.{Drawn, drew, short, draw, serve, inRange, orderModuli, orderOf, rowOf, questionModuli}
-use Rattle.drawing.specs.Uniform.{alike, such, howMany, ways, OneToOne, Even, EvenOrders, Questions, EvenQuestions, QuestionShares, IsOrder}
+use Rattle.paths.specs.Count.{sameRow}
+use Rattle.drawing.specs.Uniform.{such, howMany, ways, OneToOne, Even, EvenOrders, Questions, EvenQuestions, QuestionShares, IsOrder}
 use Rattle.drawing.proofs.Tests.{first, second, both}
 use Rattle.drawing.proofs.Counts.{count-same, count-all, ways-are, shares, questions-all}
 use Rattle.drawing.proofs.Aiming.{Within, draw-within}
 use Rattle.drawing.proofs.Orders.{orders}
 
-pub alike-told : (xs ys : List ℕ) → T (alike xs ys) → xs ≡ ys
-unfolding alike
+pub alike-told : (xs ys : List ℕ) → T (sameRow xs ys) → xs ≡ ys
 alike-told [] [] h = refl
 alike-told [] (y ∷ ys) h = absurd h
 alike-told (x ∷ xs) [] h = absurd h
-alike-told (x ∷ xs) (y ∷ ys) h = let e = eqb→eq x y (first (eqb x y) (alike xs ys) h) in let f = alike-told xs ys (second (eqb x y) (alike xs ys) h) in cc
+alike-told (x ∷ xs) (y ∷ ys) h = let e = eqb→eq x y (first (eqb x y) (sameRow xs ys) h) in let f = alike-told xs ys (second (eqb x y) (sameRow xs ys) h) in cc
 
-pub alike-itself : (xs : List ℕ) → T (alike xs xs)
-unfolding alike
+pub alike-itself : (xs : List ℕ) → T (sameRow xs xs)
 alike-itself [] = tt
-alike-itself (x ∷ xs) = both (eqb x x) (alike xs xs) (eqb-refl x) (alike-itself xs)
+alike-itself (x ∷ xs) = both (eqb x x) (sameRow xs xs) (eqb-refl x) (alike-itself xs)
 
 -- two tests of one fact
 one-test : (x y : Bool) → (T x → T y) → (T y → T x) → x ≡ y
@@ -37,16 +36,16 @@ one-test false false f g = refl
 
 module _ {A : Type 0} (n : ℕ) (ss : List ℕ) (Is : A → Type 0) (there : List ℕ → A) (back : A → List ℕ) (same : A → A → Bool)
     (one : OneToOne ss Is there back) (told : (a b : A) → T (same a b) → a ≡ b) (itself : (a : A) → T (same a a)) (good : T (serve n ss)) where
-  same-test : (a : A) → Is a → (r : Drawn) → Within ss r → such (λ ds. same (there ds) a) r ≡ such (alike (back a)) r
+  same-test : (a : A) → Is a → (r : Drawn) → Within ss r → such (λ ds. same (there ds) a) r ≡ such (sameRow (back a)) r
   same-test a h (drew ds left) w =
-      one-test (same (there ds) a) (alike (back a) ds)
-      (λ t. subst (λ es. T (alike (back a) es)) (ap back (sym (told (there ds) a t)) ∙ one .back-there ds w) (alike-itself (back a)))
+      one-test (same (there ds) a) (sameRow (back a) ds)
+      (λ t. subst (λ es. T (sameRow (back a) es)) (ap back (sym (told (there ds) a t)) ∙ one .back-there ds w) (alike-itself (back a)))
       (λ t. subst (λ b. T (same b a)) (sym (one .there-back a h) ∙ ap there (alike-told (back a) ds t)) (itself a))
   same-test a h short w = refl
 
   exact : (many : ℕ) (a : A) → Is a → howMany n ss (λ ds. same (there ds) a) many ≡ ways n ss many
   exact many a h =
-      count-same (λ vs. such (λ ds. same (there ds) a) (draw n ss vs)) (λ vs. such (alike (back a)) (draw n ss vs)) (λ vs. same-test a h (draw n ss vs) (draw-within n ss good vs)) (asks n many)
+      count-same (λ vs. such (λ ds. same (there ds) a) (draw n ss vs)) (λ vs. such (sameRow (back a)) (draw n ss vs)) (λ vs. same-test a h (draw n ss vs) (draw-within n ss good vs)) (asks n many)
       ∙ ways-are n ss good many (back a) (one .back-in a h)
 
   pub even : Even n ss Is there same
@@ -67,7 +66,7 @@ serve-replicate n m zero p l = tt
 serve-replicate n m (suc r) p l = both (ltb 0 m && leb m n) (serve n (replicate r m)) (both (ltb 0 m) (leb m n) (lt→ltb 0 m p) (le→leb m n l)) (serve-replicate n m r p l)
 
 pub even-orders : EvenOrders
-even-orders k l = even (2 ^ 32) (orderModuli k) (IsOrder k) (orderOf k) (rowOf k) alike (orders k) alike-told alike-itself (serve-order (2 ^ 32) k l)
+even-orders k l = even (2 ^ 32) (orderModuli k) (IsOrder k) (orderOf k) (rowOf k) sameRow (orders k) alike-told alike-itself (serve-order (2 ^ 32) k l)
 
 -- questions in range
 questions-are : (m r : ℕ) (ds : List ℕ) → T (inRange (replicate r m) ds) → Questions m r ds
@@ -89,7 +88,7 @@ questions-in m (suc r) (d ∷ ds) h =
 
 pub even-questions : EvenQuestions
 even-questions m r p l =
-    even (2 ^ 32) (questionModuli m r) (Questions m r) (λ is. is) (λ is. is) alike
+    even (2 ^ 32) (questionModuli m r) (Questions m r) (λ is. is) (λ is. is) sameRow
     (record { there-is = questions-are m r; back-in = questions-in m r; there-back = λ a h. refl; back-there = λ ds h. refl })
     alike-told alike-itself (serve-replicate (2 ^ 32) m r p l)
 

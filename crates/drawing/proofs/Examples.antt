@@ -4,7 +4,8 @@ use mathlib.Core.List.{[], _∷_}
 use Prim.Native.Nat.{_^_}
 use Rattle.paths.specs.Cheat.{upTo, before, asks, count}
 use Rattle.drawing.specs.Drawing.{drew, short, draw, aim, passed, exchanges, orderOf, rowOf, orderModuli, valuesOf}
-use Rattle.drawing.specs.Uniform.{alike, howMany, ways}
+use Rattle.paths.specs.Count.{sameRow}
+use Rattle.drawing.specs.Uniform.{howMany, ways}
 
 -- of ten values 0 .. 9 the last is passed over for a number below 3; what is left over stays
 passes-over : draw 10 (3 ∷ []) (9 ∷ 4 ∷ 7 ∷ []) ≡ drew (1 ∷ []) (7 ∷ [])
@@ -49,8 +50,8 @@ unfolding aim
 aimed = refl
 
 -- of the 100 rows of two values 33 draw a 1: 3 with any other behind it, and one that is passed over with 3 behind it
-counted : howMany 10 (3 ∷ []) (alike (1 ∷ [])) 2 ≡ 33
-unfolding draw asks before upTo count alike
+counted : howMany 10 (3 ∷ []) (sameRow (1 ∷ [])) 2 ≡ 33
+unfolding draw asks before upTo count
 counted = refl
 
 known : ways 10 (3 ∷ []) 2 ≡ 33

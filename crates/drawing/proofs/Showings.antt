@@ -10,7 +10,8 @@ use Rattle.paths.specs.Plan.{Task, allBelow}
 use Rattle.paths.specs.Show.{Coin}
 use Rattle.paths.specs.Promise.{IsCoin, Coins}
 use Rattle.drawing.specs.Drawing.{serve, times, parts, chanceModuli, numberOf, digitsOf, orderModuli, orderOf, rowOf, coinModuli, coinOf, rowOfCoin, showingModuli, coinsOf, rowOfCoins}
-use Rattle.drawing.specs.Uniform.{OneToOne, IsOrder, Showings, alike, sameCoin, sameCoins, EvenShowings}
+use Rattle.paths.specs.Count.{sameRow}
+use Rattle.drawing.specs.Uniform.{OneToOne, IsOrder, Showings, sameCoin, sameCoins, EvenShowings}
 use Rattle.drawing.proofs.Tests.{first, second, both}
 use Rattle.drawing.proofs.Orders.{orders}
 use Rattle.drawing.proofs.Joins.{Each, SoMany, pairs, rows-of, renamed, digits}
@@ -61,8 +62,8 @@ showings t r =
 -- the test for the same coins
 coin-told : (c d : Coin) → T (sameCoin c d) → c ≡ d
 coin-told c d h =
-    let e = alike-told (c .order) (d .order) (first (alike (c .order) (d .order)) (alike (c .chances) (d .chances)) h) in
-    let f = alike-told (c .chances) (d .chances) (second (alike (c .order) (d .order)) (alike (c .chances) (d .chances)) h) in
+    let e = alike-told (c .order) (d .order) (first (sameRow (c .order) (d .order)) (sameRow (c .chances) (d .chances)) h) in
+    let f = alike-told (c .chances) (d .chances) (second (sameRow (c .order) (d .order)) (sameRow (c .chances) (d .chances)) h) in
     λ i. record { order = e i; chances = f i }
 
 coins-told : (cs ds : List Coin) → T (sameCoins cs ds) → cs ≡ ds
@@ -79,7 +80,7 @@ coins-itself : (cs : List Coin) → T (sameCoins cs cs)
 unfolding sameCoins
 coins-itself [] = tt
 coins-itself (c ∷ cs) =
-    both (sameCoin c c) (sameCoins cs cs) (both (alike (c .order) (c .order)) (alike (c .chances) (c .chances)) (alike-itself (c .order)) (alike-itself (c .chances))) (coins-itself cs)
+    both (sameCoin c c) (sameCoins cs cs) (both (sameRow (c .order) (c .order)) (sameRow (c .chances) (c .chances)) (alike-itself (c .order)) (alike-itself (c .chances))) (coins-itself cs)
 
 -- the moduli serve
 serve-both : (n : ℕ) (ss ts : List ℕ) → T (serve n ss) → T (serve n ts) → T (serve n (ss ++ ts))

@@ -9,6 +9,7 @@ use lib.ListN.{length}
 use Rattle.paths.specs.Plan.{Task, allBelow, different}
 use Rattle.paths.specs.Show.{Coin}
 use Rattle.paths.specs.Promise.{Coins}
+use Rattle.paths.specs.Count.{sameRow}
 use Rattle.paths.specs.Cheat.{count, asks, before, upTo}
 use Rattle.drawing.specs.Drawing.{limit, Drawn, drew, short, draw, andThen, valuesOf, serve, inRange, aim, passed, kept, orderModuli, orderOf, rowOf, showingModuli, coinsOf, rowOfCoins, questionModuli}
 
@@ -20,13 +21,6 @@ countBelow p (suc n) = countBelow p n + cond (p n) 1 0
 -- Of the values below n, each remainder d below s comes from equally many that are not passed over: limit / s.
 abbrev pub Remainders : ℕ → Type 0
 Remainders n = (s d : ℕ) → s ≤ n → d < s → countBelow (λ v. ltb v (limit n s) && eqb (v % s) d) n ≡ limit n s / s
-
--- are two rows the same
-unfoldable pub alike : List ℕ → List ℕ → Bool
-alike [] [] = true
-alike [] (y ∷ ys) = false
-alike (x ∷ xs) [] = false
-alike (x ∷ xs) (y ∷ ys) = eqb x y && alike xs ys
 
 -- the values were enough, and the numbers drawn pass a test
 abbrev pub such : (List ℕ → Bool) → Drawn → Bool
@@ -45,13 +39,13 @@ ways n (s ∷ ss) (suc many) = limit n s / s * ways n ss many + n % s * ways n (
 
 -- Each row of numbers in range comes from this many rows of values, whichever row it is.
 abbrev pub Ways : ℕ → Type 0
-Ways n = (ss : List ℕ) → T (serve n ss) → (many : ℕ) (ds : List ℕ) → T (inRange ss ds) → howMany n ss (alike ds) many ≡ ways n ss many
+Ways n = (ss : List ℕ) → T (serve n ss) → (many : ℕ) (ds : List ℕ) → T (inRange ss ds) → howMany n ss (sameRow ds) many ≡ ways n ss many
 
 -- So as many rows of values draw the one row of numbers as draw the other.
 abbrev pub Rows : ℕ → Type 0
 Rows n =
     (ss : List ℕ) → T (serve n ss) → (many : ℕ) (ds es : List ℕ) → T (inRange ss ds) → T (inRange ss es) →
-    howMany n ss (alike ds) many ≡ howMany n ss (alike es) many
+    howMany n ss (sameRow ds) many ≡ howMany n ss (sameRow es) many
 
 -- all rows of numbers in range
 unfoldable pub allRows : List ℕ → List (List ℕ)
@@ -126,7 +120,7 @@ pub record Even {A : Type 0} (n : ℕ) (ss : List ℕ) (Is : A → Type 0) (ther
 
 -- Each order of k paths comes from equally many rows of values.
 abbrev pub EvenOrders : Type 0
-EvenOrders = (k : ℕ) → k ≤ 2 ^ 32 → Even (2 ^ 32) (orderModuli k) (IsOrder k) (orderOf k) alike
+EvenOrders = (k : ℕ) → k ≤ 2 ^ 32 → Even (2 ^ 32) (orderModuli k) (IsOrder k) (orderOf k) sameRow
 
 -- r questions, each for one of m pairs
 abbrev pub Questions : ℕ → ℕ → List ℕ → Type 0
@@ -134,7 +128,7 @@ Questions m r is = (length is ≡ r) × T (allBelow m is)
 
 -- Each row of r questions comes from equally many rows of values.
 abbrev pub EvenQuestions : Type 0
-EvenQuestions = (m r : ℕ) → 0 < m → m ≤ 2 ^ 32 → Even (2 ^ 32) (questionModuli m r) (Questions m r) (λ is. is) alike
+EvenQuestions = (m r : ℕ) → 0 < m → m ≤ 2 ^ 32 → Even (2 ^ 32) (questionModuli m r) (Questions m r) (λ is. is) sameRow
 
 -- Whatever is tested of r questions, it passes in the same share of all rows of values that are enough for r questions as of all m ^ r ways to ask.
 abbrev pub QuestionShares : Type 0
@@ -144,7 +138,7 @@ QuestionShares =
 
 -- are two rows of coins the same
 abbrev pub sameCoin : Coin → Coin → Bool
-sameCoin c d = alike (c .order) (d .order) && alike (c .chances) (d .chances)
+sameCoin c d = sameRow (c .order) (d .order) && sameRow (c .chances) (d .chances)
 
 unfoldable pub sameCoins : List Coin → List Coin → Bool
 sameCoins [] [] = true
