@@ -1,6 +1,6 @@
 -- Two openings of one box that are not the same give two texts of one digest. Assumes nothing.
 use Rattle.std.proofs.Common.{◌≡◌, ℕ, ◌^◌, ◌<◌, Bool, true, false, not, ◌&&◌, eqb, ◌⊎◌, List, Some, None, sym, refl, ap, ◌∙◌, inl, inr}
-use Rattle.std.proofs.lemmas.Bool.{and_from, and_parts, both_ways, cases_Bool, eq-eqb, eqb-true, not_from_false, not_true}
+use Rattle.std.proofs.lemmas.Bool.{and_from, and_parts, both_ways, cases_Bool, eq-eqb, eqb-true, not_from_false, not-true}
 use Rattle.paths.specs.Count.{same_row}
 use Rattle.boxes.specs.Box.{Opening, text_of, opens_box}
 use Rattle.boxes.specs.Binding.{TwoTexts, collides, same_opening, texts_of, opened_twice, collision_of, Binds}
@@ -45,7 +45,7 @@ module _ (x y : Opening) where
       let a = and_parts (not (same_opening x y) && opens_box H digest round x) (opens_box H digest round y) h in
       let b = and_parts (not (same_opening x y)) (opens_box H digest round x) a.0 in
       elim (opened-same H digest round hx hy b.1 a.1) [
-        | inl e ↦ absurd (both_ways (same_opening x y) (not_true _ b.0) (ap (same_opening x) (sym e) ∙ same_opening-itself x))
+        | inl e ↦ absurd (both_ways (same_opening x y) (not-true _ b.0) (ap (same_opening x) (sym e) ∙ same_opening-itself x))
         | inr e ↦ e
       ]
 

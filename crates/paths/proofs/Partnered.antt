@@ -1,7 +1,7 @@
 -- The order in which each path has its partner's number: it is an order of as many paths. Assumes nothing.
 use Rattle.std.proofs.Common.{◌≡◌, ℕ, ◌+◌, ◌<◌, ◌≤◌, Bool, true, false, not, ◌&&◌, T, eqb, ltb, ◌≢◌, List, [], ◌∷◌, ◌++◌, map, length, take, set, Some, sym, refl, ap, ◌∙◌, add-one, arith}
 use Rattle.std.proofs.lemmas.List.{map_push, take_more_set}
-use Rattle.std.proofs.lemmas.Bool.{and_parts, and_from, ltb-true, lt-ltb, not_true, ne_eqb, eqb-false}
+use Rattle.std.proofs.lemmas.Bool.{and_parts, and_from, ltb-true, lt-ltb, not-true, ne_eqb, eqb-false}
 use Rattle.paths.specs.Plan.{Task, all_below, apart, pairs_in, different, fits}
 use Rattle.paths.specs.Cheat.{up_to}
 use Rattle.paths.specs.Promise.{IsCoin}
@@ -35,7 +35,7 @@ two-says : (k : ℕ) (t : TwoPaths) → are_two k t ≡ true → Two k t
 two-says k t e =
     let p = and_parts (ltb t.first k && ltb t.second k) _ e in
     let q = and_parts (ltb t.first k) (ltb t.second k) p.0 in
-    record { first = ltb-true _ _ q.0; second = ltb-true _ _ q.1; differ = eqb-false _ _ (not_true _ p.1) }
+    record { first = ltb-true _ _ q.0; second = ltb-true _ _ q.1; differ = eqb-false _ _ (not-true _ p.1) }
 
 -- a task of two trains that may not share a path, which has the two paths as a plan that fits
 abbrev duo : ℕ → Task

@@ -2,7 +2,7 @@
 use Rattle.std.proofs.Common.{◌≡◌, ℕ, ◌+◌, true, false, not, eqb, ltb, List, [], ◌∷◌, map, length, drop, sym, refl, ap, ◌∙◌, subst, inl, inr, arith}
 use Rattle.std.specs.List.{flat_map, AllByRecursion as All}
 use Rattle.std.proofs.ByRecursion.{All-append}
-use Rattle.std.proofs.lemmas.Bool.{and_from, and_parts, both_ways, cases_Bool, cond_both, eqb-true, not_from_false, not_true}
+use Rattle.std.proofs.lemmas.Bool.{and_from, and_parts, both_ways, cases_Bool, cond_both, eqb-true, not_from_false, not-true}
 use Rattle.paths.specs.Plan.{Task}
 use Rattle.paths.specs.Count.{same_row}
 use Rattle.paths.specs.Cheat.{asks}
@@ -51,7 +51,7 @@ module _ (H : List ℕ → List ℕ) (other : Other) where
         }
       where
         other_text : same_row (text_of n x) (text_of n y) ≡ false
-        other_text = not_true _ (and_parts (not (same_row (text_of n x) (text_of n y))) _ c).0
+        other_text = not-true _ (and_parts (not (same_row (text_of n x) (text_of n y))) _ c).0
 
         other_opening_lem : same_opening x y ≡ false
         other_opening_lem =
