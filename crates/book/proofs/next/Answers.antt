@@ -16,7 +16,7 @@ unfolding after
 returns c =
     let a = c.args in
     let w = round_text a.boxes.now a.ask.now a.opened.now a.end.now in
-    let held = c.add-words.ensures _ (c.update.ensures [] c.new-h.ensures) in
+    let held = c.add_words.ensures _ (c.update.ensures [] c.new-h.ensures) in
     let e : c.finish.result ≡ next_digest sha256 a.before w = c.finish.ensures _ held ∙ ap sha256 (regrouped a.before a.boxes.now a.ask.now a.opened.now a.end.now) in
     record {
       value = e;

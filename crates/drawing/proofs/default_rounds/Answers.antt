@@ -5,5 +5,5 @@ use Rattle.drawing.proofs.default_rounds.Goals as goal
 
 pub returns : goal.returns
 returns c =
-    let e = c.forty-for-each.ensures in
+    let e = c.forty_for_each.ensures in
     record { is = e; most = λ h. omega arith; enough = λ h. simp e (rounds.enough c.args.pairs h); halves = rounds.halves; always = rounds.enough }

@@ -3,5 +3,5 @@ use Rattle.tasks.specs.Model.{task_of}
 use Rattle.asking.proofs.Answered.{opened-long}
 use Rattle.asking.proofs.testing.opened_of.Goals as goal
 
-pub copy-from-slice-requires : goal.copy-from-slice-requires
-copy-from-slice-requires c = sym (opened-long (task_of c.args.task.now) c.args.round c.args.bytes.now (sym c.if-not-is-opened-of.ensures))
+pub copy_from_slice-requires : goal.copy_from_slice-requires
+copy_from_slice-requires c = sym (opened-long (task_of c.args.task.now) c.args.round c.args.bytes.now (sym c.if-not-is_opened_of.ensures))

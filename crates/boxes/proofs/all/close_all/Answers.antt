@@ -8,4 +8,4 @@ pub returns-then-not-fits : goal.returns-then-not-fits
 returns-then-not-fits c = record { answer = c.if-not-fits.ensures; boxes = refl; laid = laid sha256 length-sha256 }
 
 pub returns : goal.returns
-returns c = record { answer = c.if-not-fits.ensures; boxes = c.write-all.ensures; laid = laid sha256 length-sha256 }
+returns c = record { answer = c.if-not-fits.ensures; boxes = c.write_all.ensures; laid = laid sha256 length-sha256 }

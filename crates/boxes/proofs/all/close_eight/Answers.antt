@@ -14,4 +14,4 @@ returns c =
     let t : length (take n all) ≡ length numbers = length-take-le n all (omega (arith, l, c.requires.few)) ∙ sub-zero (length numbers) in
     let b = boxes-joined sha256 c.args.round numbers (take n all) c.args.first c.args.chances.now t
     (λ j h. get_or-take n all j [] (omega arith) ∙ c.digests-all.ensures j (omega (arith, h, c.requires.few)) ∙ ap sha256 (c.texts.ensures j h)) in
-    c.put-all.ensures ∙ (rw (b, t))
+    c.put_all.ensures ∙ (rw (b, t))

@@ -21,7 +21,7 @@ loop-t-preserved c =
     let few = take (t + n - t) (drop t numbers) in
     let l : length few ≡ n = length-take-le (t + n - t) (drop t numbers) (simp length-drop (omega arith)) ∙ omega arith in
     let m = put-more 32 t n (32 * length few) _ (boxes_of sha256 c.args.round t few (take (length chances - 32 * t) (drop (32 * t) chances))) _ _ _
-    (rw l) (omega (arith, l, c.requires.room)) (length-boxes sha256 c.args.round length-sha256 few _ t) c.close-eight.ensures c.loop-t.invariant.0 in
+    (rw l) (omega (arith, l, c.requires.room)) (length-boxes sha256 c.args.round length-sha256 few _ t) c.close_eight.ensures c.loop-t.invariant.0 in
     (rw (← boxes-more sha256 c.args.round numbers chances t n h) m, h)
 
 pub returns : goal.returns

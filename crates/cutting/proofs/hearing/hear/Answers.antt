@@ -3,4 +3,4 @@ use Rattle.cutting.proofs.Rounds.{cuts}
 use Rattle.cutting.proofs.hearing.hear.Goals as goal
 
 pub returns : goal.returns
-returns c = record { answer = c.hear-word.ensures.answer; few = c.hear-word.ensures.few; cuts = cuts (task_of c.args.task.now) }
+returns c = record { answer = c.hear_word.ensures.answer; few = c.hear_word.ensures.few; cuts = cuts (task_of c.args.task.now) }

@@ -5,4 +5,4 @@ use Rattle.judging.proofs.redrawing.put_boxes.Goals as goal
 
 pub returns : goal.returns
 returns c =
-    boxes-behind c.args.number (plan_of c.args.plan.now) (order_of c.args.order.now) c.args.chances.now _ _ c.write-boxes.result c.requires.chances c.requires.room c.write-boxes.ensures
+    boxes-behind c.args.number (plan_of c.args.plan.now) (order_of c.args.order.now) c.args.chances.now _ _ c.write_boxes.result c.requires.chances c.requires.room c.write_boxes.ensures

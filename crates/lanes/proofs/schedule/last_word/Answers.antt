@@ -7,4 +7,4 @@ pub returns : goal.returns
 returns c =
     let text : List ℕ = c.args.text.now in
     let l : length text ≡ 39 = search rules in
-    record { value = c.from-be-bytes.ensures ∙ word_last text l; size = l }
+    record { value = c.from_be_bytes.ensures ∙ word_last text l; size = l }

@@ -7,4 +7,4 @@ pub returns : goal.returns
 returns c =
     let q = itself c.args.q c.fits-q.0 in
     let s = itself c.args.s c.fits-s.0 in
-    by_two ◌⊞◌ (by_two ◌⊞◌ (by_two ◌⊞◌ c.small-sigma1.ensures q) c.small-sigma0.ensures) s
+    by_two ◌⊞◌ (by_two ◌⊞◌ (by_two ◌⊞◌ c.small_sigma1.ensures q) c.small_sigma0.ensures) s

@@ -11,7 +11,7 @@ loop-i-preserved c =
     let i = c.loop-i.i in (
       λ j l.
           words-at _ (padded (get_or c.args.texts.now j [])) (4 * i + 4) (4 * (i + 1)) (omega arith)
-          (c.put-four.ensures j (padded (get_or c.args.texts.now j [])) l (c.loop-i.invariant.0 j l)),
+          (c.put_four.ensures j (padded (get_or c.args.texts.now j [])) l (c.loop-i.invariant.0 j l)),
       search rules,
     )
 

@@ -4,7 +4,7 @@ use Rattle.sha256.specs.Sha256.{word}
 use Rattle.lanes.proofs.States.{word_front}
 use Rattle.lanes.proofs.schedule.word.Goals as goal
 
-plain : (c : goal.After-from-be-bytes) → c.from-be-bytes.result ≡ word c.args.text.now c.args.t
+plain : (c : goal.After-from_be_bytes) → c.from_be_bytes.result ≡ word c.args.text.now c.args.t
 unfolding word
 plain c = cc
 

@@ -5,7 +5,7 @@ use Rattle.lanes.specs.Lane.{lane}
 use Rattle.lanes.proofs.States.{word_zero, word_size}
 use Rattle.lanes.proofs.Vectors.{splat}
 use Rattle.lanes.proofs.schedule.words.Goals as goal
-use Rattle.lanes.proofs.schedule.words.Goals.{in-9, in-15, in-0-to-8, in-default}
+use Rattle.lanes.proofs.schedule.words.Goals.{in-9, in-15, in-0-to-8, in_default}
 
 pub returns : goal.returns
 returns c = λ j l.
@@ -18,7 +18,7 @@ returns c = λ j l.
       | in-15 w ↦
           ap (λ (x : List ℕ). lane x j) w.result-is
           ∙ ((splat 312).at j l ∙ (word_size text e ∙ ap (λ (u : ℕ). word (padded text) u) (sym w.in-15.is)))
-      | in-0-to-8 w ↦ ap (λ (x : List ℕ). lane x j) w.result-is ∙ w.whole-words.ensures j l
-      | in-default w ↦
+      | in-0-to-8 w ↦ ap (λ (x : List ℕ). lane x j) w.result-is ∙ w.whole_words.ensures j l
+      | in_default w ↦
           ap (λ (x : List ℕ). lane x j) w.result-is ∙ ((splat 0).at j l ∙ word_zero text t e (omega arith) (omega arith))
     ]

@@ -7,4 +7,4 @@ use Rattle.lanes.proofs.texts.digests.Goals as goal
 pub returns : goal.returns
 returns c = λ j l.
     let text = get_or c.args.texts.now j [] in
-    c.outputs.ensures j l ∙ (ap output (c.compress.ensures j l) ∙ sha256-text text (c.last-words-last.ensures.sized j l))
+    c.outputs.ensures j l ∙ (ap output (c.compress.ensures j l) ∙ sha256-text text (c.last_words-last.ensures.sized j l))

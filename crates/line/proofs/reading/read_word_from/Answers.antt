@@ -8,9 +8,9 @@ pub returns : goal.returns
 returns g c =
     let t = task_of c.args.task.now in
     let stopping = stops t c.args.task.now.few_trains in
-    let word = c.all-turns.new.word in
+    let word = c.all_turns.new.word in
     record {
-      wanted = c.all-turns.ensures;
-      few = omega (arith, word.ok.0, wanted_few t stopping (vec_items word) c.all-turns.ensures);
+      wanted = c.all_turns.ensures;
+      few = omega (arith, word.ok.0, wanted_few t stopping (vec_items word) c.all_turns.ensures);
       law = one_word t stopping;
     }

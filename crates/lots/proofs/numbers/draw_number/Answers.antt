@@ -5,7 +5,7 @@ use Rattle.lots.proofs.numbers.draw_number.Goals as goal
 pub returns-then-value-limit : goal.returns-then-value-limit
 returns-then-value-limit c =
     let used = number_used c.args.below c.args.bytes.now c.loop-at.at (omega arith) (omega arith) in
-    let is = c.value-at-value.ensures in
+    let is = c.value_at-value.ensures in
     record { number = simp is (sym used ∙ c.loop-at.invariant.0); within = (mod-lt _ c.requires.0, omega arith) }
 
 pub loop-at-preserved : goal.loop-at-preserved

@@ -3,15 +3,15 @@ use Rattle.std.proofs.lemmas.Result.{err_from_is_err_and}
 use Rattle.lots.proofs.Steps.{exchange-step, exchange-refused, exchange-none}
 use Rattle.lots.proofs.orders.draw_exchanges.Goals as goal
 
-pub returns-in-err-number : goal.returns-in-err-number
-returns-in-err-number c =
-    let p = err_from_is_err_and c.from-residual.result c.from-residual.ensures.1 in
-    let e = exchange-refused c.loop-i.i c.loop-i.row _ c.loop-i-test.true _ c.in-err-number.ensures.number in
+pub returns-in_err-number : goal.returns-in_err-number
+returns-in_err-number c =
+    let p = err_from_is_err_and c.from_residual.result c.from_residual.ensures.1 in
+    let e = exchange-refused c.loop-i.i c.loop-i.row _ c.loop-i-test.true _ c.in_err-number.ensures.number in
     rw (p.1, p.2) (record { row = e ∙ c.loop-i.invariant.0; within = tt })
 
 pub loop-i-preserved : goal.loop-i-preserved
 loop-i-preserved c =
-    let n = c.in-ok-number.ensures in
+    let n = c.in_ok-number.ensures in
     (exchange-step c.loop-i.i c.loop-i.row _ c.loop-i-test.true _ _ _ n.number (c.swap.ensures.by_index.3 0) ∙ c.loop-i.invariant.0, n.within.1)
 
 pub returns : goal.returns

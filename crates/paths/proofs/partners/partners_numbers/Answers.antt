@@ -11,7 +11,7 @@ loop-path-init c = (refl, refl)
 
 pub loop-path-preserved : goal.loop-path-preserved
 loop-path-preserved c =
-    (length-set c.loop-path.theirs _ _ ∙ c.loop-path.invariant.0, made_more _ c.loop-path.theirs _ c.loop-path.invariant.1 _ (omega arith) (ap (at c.args.numbers.now) c.partner-of.ensures))
+    (length-set c.loop-path.theirs _ _ ∙ c.loop-path.invariant.0, made_more _ c.loop-path.theirs _ c.loop-path.invariant.1 _ (omega arith) (ap (at c.args.numbers.now) c.partner_of.ensures))
 
 pub returns : goal.returns
 returns c = made_all _ c.loop-path.theirs _ c.loop-path.invariant.1 _ c.loop-path.auto.path-end c.loop-path-test.false

@@ -10,6 +10,6 @@ pub returns : goal.returns
 returns c =
     let t = task_of c.args.task.now in
     let bs = c.args.bytes.now in
-    let read = c.in-ok-word.ensures in
+    let read = c.in_ok-word.ensures in
     let e = c.ended.ensures ∙ ap (λ g. and_then g (on_end c.args.round)) read.answer in
-    record { answer = e; whole = end_whole t c.args.round bs read.law (bytes_below bs c.type-inv.bytes) c.ended.result e }
+    record { answer = e; whole = end_whole t c.args.round bs read.law (bytes_below bs c.type_inv.bytes) c.ended.result e }

@@ -8,4 +8,4 @@ unfolding every_two
 loop-j-init c = sym (append-nil _)
 
 pub loop-j-preserved : goal.loop-j-preserved
-loop-j-preserved c = two-more c.args.from c.loop-j.j _ _ _ c.loop-j.invariant c.in-ok-add-with-each.ensures
+loop-j-preserved c = two-more c.args.from c.loop-j.j _ _ _ c.loop-j.invariant c.in_ok-add_with_each.ensures

@@ -8,13 +8,13 @@ pub loop-prohibition-init : goal.loop-prohibition-init
 unfolding named
 loop-prohibition-init c = (refl, sym (append-nil _))
 
-pub returns-in-default : goal.returns-in-default
-returns-in-default c = inl (refl, named-fails (task_of c.args.task.now) c.args.prohibitions.now _ _ c.loop-prohibition-test.true c.in-default.ensures)
+pub returns-in_default : goal.returns-in_default
+returns-in_default c = inl (refl, named-fails (task_of c.args.task.now) c.args.prohibitions.now _ _ c.loop-prohibition-test.true c.in_default.ensures)
 
 pub loop-prohibition-preserved : goal.loop-prohibition-preserved
 loop-prohibition-preserved c =
     let v = c.loop-prohibition.invariant in
-    name_more (task_of c.args.task.now) c.args.prohibitions.now _ _ _ v.0 v.1 _ c.loop-prohibition-test.true _ _ c.in-Some.ensures c.in-ok-push.ensures.items
+    name_more (task_of c.args.task.now) c.args.prohibitions.now _ _ _ v.0 v.1 _ c.loop-prohibition-test.true _ _ c.in-Some.ensures c.in_ok-push.ensures.items
 
 pub returns : goal.returns
 returns c =

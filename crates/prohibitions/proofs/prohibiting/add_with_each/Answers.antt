@@ -8,4 +8,4 @@ unfolding with_each
 loop-i-init c = sym (append-nil _)
 
 pub loop-i-preserved : goal.loop-i-preserved
-loop-i-preserved c = each_more c.args.from c.args.j c.loop-i.i _ _ _ _ c.loop-i.invariant c.in-ok-push.ensures.items refl
+loop-i-preserved c = each_more c.args.from c.args.j c.loop-i.i _ _ _ _ c.loop-i.invariant c.in_ok-push.ensures.items refl

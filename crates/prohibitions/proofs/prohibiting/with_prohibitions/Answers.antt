@@ -8,21 +8,21 @@ use Rattle.tasks.specs.Reading.{refused}
 use Rattle.prohibitions.proofs.Building.{too_many, build_guarantees, build_answer, build_fixes}
 use Rattle.prohibitions.proofs.prohibiting.with_prohibitions.Goals as goal
 
-pub returns-in-err-pairs : goal.returns-in-err-pairs
-returns-in-err-pairs c =
-    let p = err_from_is_err_and c.from-residual.result c.from-residual.ensures.1 in
+pub returns-in_err-pairs : goal.returns-in_err-pairs
+returns-in_err-pairs c =
+    let p = err_from_is_err_and c.from_residual.result c.from_residual.ensures.1 in
     let t = task_of c.args.task.now in
     let bs = c.args.prohibitions.now in
     rw (p.1, p.2)
     (record {
-      answer = elim c.in-err-pairs.ensures [ inl h ↦ inl (ap (λ f. refused (number f)) h.0 ∙ too_many t bs h.1) | inr h ↦ inr (ap Err h) ];
+      answer = elim c.in_err-pairs.ensures [ inl h ↦ inl (ap (λ f. refused (number f)) h.0 ∙ too_many t bs h.1) | inr h ↦ inr (ap Err h) ];
       fixes = tt;
     })
 
-pub invariant-of-result : goal.invariant-of-result
-invariant-of-result c =
-    let v = c.in-ok-pairs.pairs in
-    let g = build_guarantees c.args.task.now c.args.prohibitions.now v c.if-trains-gt1024.false c.in-ok-pairs.ensures in
+pub invariant_of-result : goal.invariant_of-result
+invariant_of-result c =
+    let v = c.in_ok-pairs.pairs in
+    let g = build_guarantees c.args.task.now c.args.prohibitions.now v c.if-trains-gt1024.false c.in_ok-pairs.ensures in
     let l = length-map (vec_items v) pair_of in
     let n = v.ok.0 in
     (g.some-train, (g.few-trains, (g.some_path, (g.few-paths, (omega (arith, g.some-pair, l, n), (omega (arith, g.few-pairs, l, n), (g.rises, tt)))))))
@@ -31,8 +31,8 @@ pub returns : goal.returns
 returns c =
     let t = c.args.task.now in
     let bs = c.args.prohibitions.now in
-    let v = c.in-ok-pairs.pairs in
+    let v = c.in_ok-pairs.pairs in
     record {
-      answer = inl (build_answer t bs v c.if-trains-gt1024.false c.in-ok-pairs.ensures);
-      fixes = build_fixes t bs v c.if-trains-gt1024.false c.in-ok-pairs.ensures;
+      answer = inl (build_answer t bs v c.if-trains-gt1024.false c.in_ok-pairs.ensures);
+      fixes = build_fixes t bs v c.if-trains-gt1024.false c.in_ok-pairs.ensures;
     }

@@ -4,4 +4,4 @@ use Rattle.round.proofs.Rounds.{number-or_zero}
 use Rattle.round.proofs.closing.number_of.Goals as goal
 
 pub returns : goal.returns
-returns c = c.unwrap-or.ensures ∙ (ap (λ o. unwrap_or o 0) c.number.ensures ∙ number-or_zero (order_of c.args.order.now) c.args.path)
+returns c = c.unwrap_or.ensures ∙ (ap (λ o. unwrap_or o 0) c.number.ensures ∙ number-or_zero (order_of c.args.order.now) c.args.path)

@@ -8,7 +8,7 @@ use Rattle.round.proofs.closing.numbers.Goals as goal
 pub loop-train-preserved : goal.loop-train-preserved
 loop-train-preserved c =
     let n = c.args.plan.now.paths.ok.0 in
-    let e = c.number-of.ensures ∙ ap (at (order_of c.args.order.now)) c.path-of.ensures in
+    let e = c.number_of.ensures ∙ ap (at (order_of c.args.order.now)) c.path_of.ensures in
     (held_more _ (plan_of c.args.plan.now) _ _ _ (omega arith) (omega (arith, c.loop-train.invariant.1)) e c.loop-train.invariant.0, length-set _ _ _ ∙ c.loop-train.invariant.1)
 
 pub returns : goal.returns

@@ -9,4 +9,4 @@ returns c =
     let plan = c.args.plan.now in
     let n = plan.paths.ok.0 in
     boxes-put _ (plan_of plan) (order_of c.args.order.now) c.args.chances.now c.args.out.now _ _ c.numbers-numbers.result _ _ (c.len-count.ensures ∙ n)
-    c.requires.chances c.requires.room (omega (arith, plan.few_trains)) c.numbers-numbers.ensures c.put-head.ensures c.close-all.ensures.answer c.close-all.ensures.boxes
+    c.requires.chances c.requires.room (omega (arith, plan.few_trains)) c.numbers-numbers.ensures c.put_head.ensures c.close_all.ensures.answer c.close_all.ensures.boxes

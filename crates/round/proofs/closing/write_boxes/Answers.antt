@@ -10,4 +10,4 @@ returns-then-chances-size c = boxes-refused _ (plan_of c.args.plan.now) (order_o
 pub returns : goal.returns
 returns c =
     boxes_written _ (plan_of c.args.plan.now) (order_of c.args.order.now) c.args.chances.now _ _ _ (c.len.ensures ∙ c.args.plan.now.paths.ok.0)
-    c.if-chances-size.false c.if-out-size.false c.put-boxes.ensures
+    c.if-chances-size.false c.if-out-size.false c.put_boxes.ensures

@@ -7,8 +7,8 @@ pub loop-i-init : goal.loop-i-init
 loop-i-init c =
     let s = c.args.s in
     let w = c.loaded-w.result in
-    let e = c.eight-steps-first.ensures s (no_steps s w) in
-    midway_first s c.eight-steps-r.result c.args.block.now w c.loaded-w.ensures (c.eight-steps-r.ensures s e)
+    let e = c.eight_steps-first.ensures s (no_steps s w) in
+    midway_first s c.eight_steps-r.result c.args.block.now w c.loaded-w.ensures (c.eight_steps-r.ensures s e)
 
 pub returns : goal.returns
 returns c =

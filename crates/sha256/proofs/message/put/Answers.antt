@@ -4,4 +4,4 @@ use Rattle.sha256.proofs.Bytes.{put_word}
 use Rattle.sha256.proofs.message.put.Goals as goal
 
 pub returns : goal.returns
-returns c = put_word c.args.out.now c.to-be-bytes.result (4 * c.args.i) c.args.x c.to-be-bytes.ensures c.requires
+returns c = put_word c.args.out.now c.to_be_bytes.result (4 * c.args.i) c.args.x c.to_be_bytes.ensures c.requires

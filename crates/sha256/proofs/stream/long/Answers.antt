@@ -12,11 +12,11 @@ returns c = λ m h.
     let room = 64 - held in
     let front : List ℕ = take (room - 0) part in
     let rest : List ℕ = take (length part - room) (drop room part) in
-    let tail : List ℕ = c.after-blocks-tail.result.now in
+    let tail : List ℕ = c.after_blocks-tail.result.now in
     let full : List ℕ = c.filled-full.result in
     let ef : front ≡ take room part = ap (λ (n : ℕ). take n part) (sub-zero room) in
     let er = take_rest part room in
-    let et = c.after-blocks-tail.ensures.value in
+    let et = c.after_blocks-tail.ensures.value in
     let lf : length full ≡ 64 = search rules in
     let ek = ap (λ (n : ℕ). take n c.filled.result) (sym (zero-add (length tail))) ∙ c.filled.ensures in
     record {

@@ -6,13 +6,13 @@ use Rattle.tasks.proofs.reading.check_pairs.Goals as goal
 
 pub loop-i-preserved : goal.loop-i-preserved
 loop-i-preserved c =
-    let e = each_more _ _ _ _ _ _ _ c.loop-i-test.true c.in-ok-last.ensures in
+    let e = each_more _ _ _ _ _ _ _ c.loop-i-test.true c.in_ok-last.ensures in
     rw take_rest (sym e ∙ c.loop-i.invariant)
 
-pub returns-in-err-last : goal.returns-in-err-last
-returns-in-err-last c =
-    let p = err_from_is_err_and c.from-residual.result c.from-residual.ensures.1 in
-    let e = each-fault _ _ _ _ _ _ _ c.loop-i-test.true c.in-err-last.ensures in
+pub returns-in_err-last : goal.returns-in_err-last
+returns-in_err-last c =
+    let p = err_from_is_err_and c.from_residual.result c.from_residual.ensures.1 in
+    let e = each-fault _ _ _ _ _ _ _ c.loop-i-test.true c.in_err-last.ensures in
     rw (p.1, p.2) (sym e ∙ c.loop-i.invariant)
 
 pub returns : goal.returns

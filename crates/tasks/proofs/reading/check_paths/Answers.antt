@@ -6,13 +6,13 @@ use Rattle.tasks.proofs.reading.check_paths.Goals as goal
 
 pub loop-i-preserved : goal.loop-i-preserved
 loop-i-preserved c =
-    let e = each_more _ _ _ _ _ _ _ c.loop-i-test.true c.in-ok-check-path.ensures in
+    let e = each_more _ _ _ _ _ _ _ c.loop-i-test.true c.in_ok-check_path.ensures in
     rw take_rest (sym e ∙ c.loop-i.invariant)
 
-pub returns-in-err-check-path : goal.returns-in-err-check-path
-returns-in-err-check-path c =
-    let p = err_from_is_err_and c.from-residual.result c.from-residual.ensures.1 in
-    let e = each-fault _ _ _ _ _ _ _ c.loop-i-test.true c.in-err-check-path.ensures in
+pub returns-in_err-check_path : goal.returns-in_err-check_path
+returns-in_err-check_path c =
+    let p = err_from_is_err_and c.from_residual.result c.from_residual.ensures.1 in
+    let e = each-fault _ _ _ _ _ _ _ c.loop-i-test.true c.in_err-check_path.ensures in
     rw (p.1, p.2) (sym e ∙ c.loop-i.invariant)
 
 pub returns : goal.returns

@@ -8,29 +8,29 @@ use Rattle.tasks.proofs.Fronts.{plan_front}
 use Rattle.tasks.proofs.Words.{bytes_below}
 use Rattle.tasks.proofs.reading.read_plan.Goals as goal
 
-pub returns-in-err-check-plan : goal.returns-in-err-check-plan
-returns-in-err-check-plan c =
-    let p = err_from_is_err_and c.from-residual.result c.from-residual.ensures.1 in
+pub returns-in_err-check_plan : goal.returns-in_err-check_plan
+returns-in_err-check_plan c =
+    let p = err_from_is_err_and c.from_residual.result c.from_residual.ensures.1 in
     let law = plan_law (task_of c.args.task.now) (omega arith) in
-    rw (p.1, p.2) (record { answer = inl c.in-err-check-plan.ensures; written = tt; law = law; front = plan_front (task_of c.args.task.now) c.args.task.now.few_trains })
+    rw (p.1, p.2) (record { answer = inl c.in_err-check_plan.ensures; written = tt; law = law; front = plan_front (task_of c.args.task.now) c.args.task.now.few_trains })
 
-pub returns-in-err-paths : goal.returns-in-err-paths
-returns-in-err-paths c =
-    let p = err_from_is_err_and c.from-residual-in-err-paths.result c.from-residual-in-err-paths.ensures.1 in
+pub returns-in_err-paths : goal.returns-in_err-paths
+returns-in_err-paths c =
+    let p = err_from_is_err_and c.from_residual-in_err-paths.result c.from_residual-in_err-paths.ensures.1 in
     let law = plan_law (task_of c.args.task.now) (omega arith) in
-    rw (p.1, p.2) (record { answer = inr (refl, (_, sym c.in-ok-check-plan.ensures)); written = tt; law = law; front = plan_front (task_of c.args.task.now) c.args.task.now.few_trains })
+    rw (p.1, p.2) (record { answer = inr (refl, (_, sym c.in_ok-check_plan.ensures)); written = tt; law = law; front = plan_front (task_of c.args.task.now) c.args.task.now.few_trains })
 
-pub invariant-of-result : goal.invariant-of-result
-invariant-of-result c =
-    let m = c.in-ok-paths.ensures in
-    let e = ap got (rw take_rest at m.items) ∙ c.in-ok-check-plan.ensures in
+pub invariant_of-result : goal.invariant_of-result
+invariant_of-result c =
+    let m = c.in_ok-paths.ensures in
+    let e = ap got (rw take_rest at m.items) ∙ c.in_ok-check_plan.ensures in
     let l = (plan-sound (task_of c.args.task.now) (omega arith) c.args.bytes.now _ (sym e)).0 in
-    let n = c.in-ok-paths.paths.ok.0 in
+    let n = c.in_ok-paths.paths.ok.0 in
     (omega arith, (omega arith, tt))
 
 pub returns : goal.returns
 returns c =
     let bs = c.args.bytes.now in
     let law = plan_law (task_of c.args.task.now) (omega arith) in
-    let e = ap got (rw take_rest at c.in-ok-paths.ensures.items) ∙ c.in-ok-check-plan.ensures in
-    record { answer = inl e; written = sym (law.only bs _ (bytes_below bs c.type-inv.bytes) (sym e)).1; law = law; front = plan_front (task_of c.args.task.now) c.args.task.now.few_trains }
+    let e = ap got (rw take_rest at c.in_ok-paths.ensures.items) ∙ c.in_ok-check_plan.ensures in
+    record { answer = inl e; written = sym (law.only bs _ (bytes_below bs c.type_inv.bytes) (sym e)).1; law = law; front = plan_front (task_of c.args.task.now) c.args.task.now.few_trains }

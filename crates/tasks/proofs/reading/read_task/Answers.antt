@@ -9,29 +9,29 @@ use Rattle.tasks.proofs.Fronts.{task_front}
 use Rattle.tasks.proofs.Words.{bytes_below}
 use Rattle.tasks.proofs.reading.read_task.Goals as goal
 
-pub returns-in-err-head : goal.returns-in-err-head
-returns-in-err-head c =
-    let p = err_from_is_err_and c.from-residual.result c.from-residual.ensures.1 in
-    rw (p.1, p.2) (record { answer = inl c.in-err-head.ensures; written = tt; law = task_law; front = task_front })
+pub returns-in_err-head : goal.returns-in_err-head
+returns-in_err-head c =
+    let p = err_from_is_err_and c.from_residual.result c.from_residual.ensures.1 in
+    rw (p.1, p.2) (record { answer = inl c.in_err-head.ensures; written = tt; law = task_law; front = task_front })
 
-pub collect-pairs-requires : goal.collect-pairs-requires
-collect-pairs-requires c = rw take_rest (count_fits c.args.bytes.now (head_of c.in-ok-head.head) c.in-ok-head.ensures)
+pub collect_pairs-requires : goal.collect_pairs-requires
+collect_pairs-requires c = rw take_rest (count_fits c.args.bytes.now (head_of c.in_ok-head.head) c.in_ok-head.ensures)
 
-pub returns-in-err-pairs : goal.returns-in-err-pairs
-returns-in-err-pairs c =
-    let p = err_from_is_err_and c.from-residual-in-err-pairs.result c.from-residual-in-err-pairs.ensures.1 in
-    rw (p.1, p.2) (record { answer = inr (refl, (_, sym c.in-ok-head.ensures)); written = tt; law = task_law; front = task_front })
+pub returns-in_err-pairs : goal.returns-in_err-pairs
+returns-in_err-pairs c =
+    let p = err_from_is_err_and c.from_residual-in_err-pairs.result c.from_residual-in_err-pairs.ensures.1 in
+    rw (p.1, p.2) (record { answer = inr (refl, (_, sym c.in_ok-head.ensures)); written = tt; law = task_law; front = task_front })
 
-pub invariant-of-result : goal.invariant-of-result
-invariant-of-result c =
-    let e = task-kept c.args.bytes.now (head_of c.in-ok-head.head) _ c.in-ok-head.ensures (rw take_rest at c.in-ok-pairs.ensures) in
+pub invariant_of-result : goal.invariant_of-result
+invariant_of-result c =
+    let e = task-kept c.args.bytes.now (head_of c.in_ok-head.head) _ c.in_ok-head.ensures (rw take_rest at c.in_ok-pairs.ensures) in
     let g = guarantees _ (task-sound c.args.bytes.now _ (sym e)) in
-    let l = length-map (vec_items c.in-ok-pairs.pairs) pair_of in
-    let n = c.in-ok-pairs.pairs.ok.0 in
-    (g.some-train, (g.few-trains, (g.some_path, (g.few-paths, (omega (arith, g.some-pair, l, n), (omega (arith, g.few-pairs, l, n), (g.rises, tt)))))))
+    let l = length-map (vec_items c.in_ok-pairs.pairs) pair_of in
+    let n = c.in_ok-pairs.pairs.ok.0 in
+    (g.some_train, (g.few_trains, (g.some_path, (g.few_paths, (omega (arith, g.some_pair, l, n), (omega (arith, g.few_pairs, l, n), (g.rises, tt)))))))
 
 pub returns : goal.returns
 returns c =
     let bs = c.args.bytes.now in
-    let e = task-kept bs (head_of c.in-ok-head.head) _ c.in-ok-head.ensures (rw take_rest at c.in-ok-pairs.ensures) in
-    record { answer = inl e; written = sym (task_law.only bs _ (bytes_below bs c.type-inv.bytes) (sym e)).1; law = task_law; front = task_front }
+    let e = task-kept bs (head_of c.in_ok-head.head) _ c.in_ok-head.ensures (rw take_rest at c.in_ok-pairs.ensures) in
+    record { answer = inl e; written = sym (task_law.only bs _ (bytes_below bs c.type_inv.bytes) (sym e)).1; law = task_law; front = task_front }

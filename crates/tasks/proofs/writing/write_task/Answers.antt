@@ -8,13 +8,13 @@ use Rattle.tasks.proofs.writing.write_task.Goals as goal
 
 pub loop-pair-init : goal.loop-pair-init
 loop-pair-init c =
-    c.in-ok-bytes.ensures.items ∙ (c.head-bytes-head.ensures ∙ ap (head_bytes c.args.task.now.trains c.args.task.now.paths) c.len.ensures)
+    c.in_ok-bytes.ensures.items ∙ (c.head_bytes-head.ensures ∙ ap (head_bytes c.args.task.now.trains c.args.task.now.paths) c.len.ensures)
 
 pub loop-pair-preserved : goal.loop-pair-preserved
 loop-pair-preserved c =
     let t = c.args.task.now in
     let hs = head_bytes t.trains t.paths (vec_len t.pairs) in
-    write-more hs _ _ c.deref-pair-items.ensures.value _ _ c.loop-pair-test.true _ _ _ c.loop-pair.invariant c.in-ok-extend-from-slice.ensures.items c.pair-bytes.ensures
+    write-more hs _ _ c.deref-pair-items.ensures.value _ _ c.loop-pair-test.true _ _ _ c.loop-pair.invariant c.in_ok-extend_from_slice.ensures.items c.pair_bytes.ensures
 
 pub returns : goal.returns
 returns c =

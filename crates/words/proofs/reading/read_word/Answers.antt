@@ -4,4 +4,4 @@ use Rattle.words.proofs.Laws.{word_law}
 use Rattle.words.proofs.reading.read_word.Goals as goal
 
 pub returns : goal.returns
-returns c = record { answer = c.read-by-kind.ensures; law = word_law (task_of c.args.task.now) (omega arith) }
+returns c = record { answer = c.read_by_kind.ensures; law = word_law (task_of c.args.task.now) (omega arith) }

@@ -4,7 +4,7 @@ use Rattle.tasks.specs.Model.{task_of}
 use Rattle.words.specs.Stops.{next_stop}
 use Rattle.words.proofs.stops.stop_by_kind.Goals as goal
 
-pub returns-then-is-empty : goal.returns-then-is-empty
-returns-then-is-empty c =
-    let none : length c.args.so-far.now ≡ 0 = search rules in
-    ap (next_stop (task_of c.args.task.now)) (sym (nil_from_length c.args.so-far.now none))
+pub returns-then-is_empty : goal.returns-then-is_empty
+returns-then-is_empty c =
+    let none : length c.args.so_far.now ≡ 0 = search rules in
+    ap (next_stop (task_of c.args.task.now)) (sym (nil_from_length c.args.so_far.now none))

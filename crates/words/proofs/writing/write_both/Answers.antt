@@ -12,4 +12,4 @@ returns-then-head-out c =
 pub returns : goal.returns
 returns c =
     let room : length c.args.head.now + length c.args.rest.now ≤ length c.args.out.now = omega arith in
-    write-all _ _ _ _ (length-append c.args.head.now c.args.rest.now) room c.put-both.ensures
+    write-all _ _ _ _ (length-append c.args.head.now c.args.rest.now) room c.put_both.ensures

@@ -22,6 +22,6 @@ returns c =
     let x = opening_bytes (opening_of c.args.first) in
     let y = opening_bytes (opening_of c.args.second) in
     let was = c.args.out.now in
-    let first = put-behind head x was _ _ 5 35 refl (c.put.ensures ∙ ap (λ bs. bs ++ drop (length bs) was) c.front.ensures) c.put-opening.ensures in
-    let second = put-behind (head ++ x) y was _ _ 40 35 (omega arith) first c.put-opening-2.ensures in
+    let first = put-behind head x was _ _ 5 35 refl (c.put.ensures ∙ ap (λ bs. bs ++ drop (length bs) was) c.front.ensures) c.put_opening.ensures in
+    let second = put-behind (head ++ x) y was _ _ 40 35 (omega arith) first c.put_opening-2.ensures in
     write-all (text c.args.round c.args.first c.args.second) was _ 75 size c.if-out-lt75.false (second ∙ ap (λ bs. bs ++ drop 75 was) (append_assoc head x y))

@@ -8,8 +8,8 @@ use Rattle.asking.proofs.asked.Asked.test.Goals as goal
 pub returns : goal.returns
 returns c =
     let task = c.args.self.drawn.ready.task in
-    let value = rw c.as-slice.ensures.value at c.test-answer-test.ensures in
+    let value = rw c.as_slice.ensures.value at c.test_answer-test.ensures in
     record {
-      state = tested_is (asked_of c.args.self) c.args.word.now _ _ _ value c.opened-of-opened.ensures c.end-after-end.ensures;
+      state = tested_is (asked_of c.args.self) c.args.word.now _ _ _ value c.opened_of-opened.ensures c.end_after-end.ensures;
       exact = exact sha256 (task_of task) (sound_of task);
     }

@@ -6,23 +6,23 @@ use Rattle.pairing.proofs.Bytes.{order_room, coin_refused, coin_made, coin_goes}
 use Rattle.pairing.proofs.Promises.{promised}
 use Rattle.pairing.proofs.plans.Plans.pair_coin.Goals as goal
 
-pub returns-in-err-order : goal.returns-in-err-order
-returns-in-err-order c =
+pub returns-in_err-order : goal.returns-in_err-order
+returns-in_err-order c =
     let s = c.args.self.now in
-    let p = err_from_is_err_and c.from-residual.result c.from-residual.ensures.1 in
-    let e = coin_refused (both_of s) c.args.question c.args.coin.now _ c.in-err-order.ensures in
+    let p = err_from_is_err_and c.from_residual.result c.from_residual.ensures.1 in
+    let e = coin_refused (both_of s) c.args.question c.args.coin.now _ c.in_err-order.ensures in
     rw (p.1, p.2) (record { answer = sym e; left = sym (ap (λ g. left_by g c.args.coin.now) e); coin = tt; promise = promised s })
 
 pub put-requires : goal.put-requires
 put-requires c =
-    let l = order_room (both_of c.args.self.now) c.args.question c.args.coin.now _ c.in-ok-order.ensures in
-    omega (arith, ap length c.as-slice.ensures.numbers)
+    let l = order_room (both_of c.args.self.now) c.args.question c.args.coin.now _ c.in_ok-order.ensures in
+    omega (arith, ap length c.as_slice.ensures.numbers)
 
 pub returns : goal.returns
 returns c =
     let s = c.args.self.now in
     let bs = c.args.coin.now in
-    let o = c.in-ok-order.ensures in
-    let e = coin_made (both_of s) c.args.question bs _ _ _ o c.as-slice.ensures.numbers c.put.ensures in
-    let g = coin_goes (both_of s) c.args.question bs _ _ c.type-inv.coin o e in
+    let o = c.in_ok-order.ensures in
+    let e = coin_made (both_of s) c.args.question bs _ _ _ o c.as_slice.ensures.numbers c.put.ensures in
+    let g = coin_goes (both_of s) c.args.question bs _ _ c.type_inv.coin o e in
     record { answer = sym e; left = sym (ap (λ g. left_by g bs) e); coin = g; promise = promised s }

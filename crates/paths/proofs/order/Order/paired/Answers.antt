@@ -3,15 +3,15 @@ use Rattle.std.proofs.lemmas.Bool.{and_parts, and_from}
 use Rattle.paths.proofs.Partnered.{still_row, is_paired}
 use Rattle.paths.proofs.order.Order.paired.Goals as goal
 
-pub invariant-of-result : goal.invariant-of-result
-invariant-of-result c =
+pub invariant_of-result : goal.invariant_of-result
+invariant_of-result c =
     let o = c.args.self.now in
-    let s = c.as-slice.ensures in
-    let r = still_row c.args.partners _ _ _ _ s.numbers s.count (sym c.if-not-are-two.ensures) (sym c.if-not-are-two-2.ensures) c.partners-numbers.ensures (and_from _ _ o.each_once o.all_there) in
+    let s = c.as_slice.ensures in
+    let r = still_row c.args.partners _ _ _ _ s.numbers s.count (sym c.if-not-are_two.ensures) (sym c.if-not-are_two-2.ensures) c.partners_numbers.ensures (and_from _ _ o.each_once o.all_there) in
     let p = and_parts _ _ r in
     (o.some, (o.few, (p.0, (p.1, tt))))
 
 pub returns : goal.returns
 returns c =
-    let s = c.as-slice.ensures in
-    is_paired c.args.partners _ _ _ _ s.numbers s.count (sym c.if-not-are-two.ensures) (sym c.if-not-are-two-2.ensures) c.partners-numbers.ensures
+    let s = c.as_slice.ensures in
+    is_paired c.args.partners _ _ _ _ s.numbers s.count (sym c.if-not-are_two.ensures) (sym c.if-not-are_two-2.ensures) c.partners_numbers.ensures

@@ -6,6 +6,6 @@ use Rattle.planning.proofs.ready.Ready.start.Goals as goal
 pub returns : goal.returns
 returns c =
     record {
-      answer = c.begin-if-fit.ensures;
+      answer = c.begin_if_fit.ensures;
       conduct = λ hash. conduct hash (task_of c.args.task) (plan_of c.args.plan) c.args.rounds.count (omega (arith, c.args.task.few_trains));
     }
