@@ -24,12 +24,12 @@ sound_of t =
     let l = length-map (vec_items t.pairs) pair_of in
     let n = t.pairs.ok.0 in
     sound_from (task_of t) (record {
-      some-train = t.some_train;
-      few-trains = t.few_trains;
+      some_train = t.some_train;
+      few_trains = t.few_trains;
       some_path = t.some_path;
-      few-paths = t.few_paths;
+      few_paths = t.few_paths;
       some_pair = omega (arith, t.some_pair);
-      few-pairs = omega (arith, t.few_pairs);
+      few_pairs = omega (arith, t.few_pairs);
       rises = t.rising_pairs;
     })
 

@@ -50,8 +50,8 @@ draw-below n s k (v ∷ vs) = go (ltb v (limit n s)) (draw-below n s k vs)
     go true more = mod-lt v k
     go false more = more
 
-pub pair-there : (t : Task) → sound t ≡ true → (bs : List ℕ) (h : Had ℕ) → question_in t bs ≡ got h → h.what < length t.pairs
-pair-there t good bs h = go (draw (2 ^ 32) (length t.pairs ∷ []) (values_of 256 bs)) (draw-below _ _ (guarantees t good).some_pair _)
+pub pair_there : (t : Task) → sound t ≡ true → (bs : List ℕ) (h : Had ℕ) → question_in t bs ≡ got h → h.what < length t.pairs
+pair_there t good bs h = go (draw (2 ^ 32) (length t.pairs ∷ []) (values_of 256 bs)) (draw-below _ _ (guarantees t good).some_pair _)
   where
     go : (d : Drawn) → Below (length t.pairs) d → had_by (λ ds. at ds 0) (on_bytes bs d) ≡ got h → h.what < length t.pairs
     go (drew ds left) b e = let k : at ds 0 ≡ h.what = cc in omega (arith, b, k)
@@ -141,7 +141,7 @@ pub own_met : (t : Task) → sound t ≡ true → (f : ℕ) → NoTask t (task_b
 own_met t good f = go
   where
     read : read_word t (task_bytes t) ≡ got (task (task_bytes t))
-    read = (word_law t (omega (arith, (guarantees t good).few-trains))).reads (task (task_bytes t)) (ap is_got (task_law.reads t good))
+    read = (word_law t (omega (arith, (guarantees t good).few_trains))).reads (task (task_bytes t)) (ap is_got (task_law.reads t good))
 
     go : {f : ℕ} → NoTask t (task_bytes t) f → ⊥
     go (no_task_word g (no_word f e)) = never (cc (e, read))
@@ -156,7 +156,7 @@ module _ (H : List ℕ → List ℕ) (t : Task) (good : sound t ≡ true) where
     where
       go : (ltb i (length t.pairs) ≡ true) ⊎ (ltb i (length t.pairs) ≡ false) → ((pair_at t i).a < t.trains) × ((pair_at t i).e < t.trains)
       go (inl e) = pairs-at t.trains t.pairs lowest (rising_in t.trains lowest t.pairs (guarantees t good).rises) i (ltb-true _ _ e)
-      go (inr e) = rw (get_or_past t.pairs i lowest (ltb-false i (length t.pairs) e)) (omega (arith, (guarantees t good).some-train), omega (arith, (guarantees t good).some-train))
+      go (inr e) = rw (get_or_past t.pairs i lowest (ltb-false i (length t.pairs) e)) (omega (arith, (guarantees t good).some_train), omega (arith, (guarantees t good).some_train))
 
   module _ (n i : ℕ) (ds : List ℕ) where
     accepted : (r : ℕ) (x y : Opening) → test_opened H t n i ds (opened r x y) ≡ got tt → (r ≡ n) × Contents H t n i ds x y
@@ -175,10 +175,10 @@ module _ (H : List ℕ → List ℕ) (t : Task) (good : sound t ≡ true) where
           record {
             first = eqb-true _ _ trains.0;
             second = eqb-true _ _ trains.1;
-            first-opens = (same_decides _ _).0 opens.0;
-            second-opens = (same_decides _ _).0 opens.1;
-            first-there = ltb-true _ _ lows.0;
-            second-there = ltb-true _ _ lows.1;
+            first_opens = (same_decides _ _).0 opens.0;
+            second_opens = (same_decides _ _).0 opens.1;
+            first_there = ltb-true _ _ lows.0;
+            second_there = ltb-true _ _ lows.1;
             different = λ q. false≢true (sym (ap not (eq-eqb _ _ q)) ∙ numbers.1);
           },
         )
@@ -193,10 +193,10 @@ module _ (H : List ℕ → List ℕ) (t : Task) (good : sound t ≡ true) where
           eq-eqb n n refl,
           eq-eqb x.train _ c.first,
           eq-eqb y.train _ c.second,
-          (same_decides _ _).1 c.first-opens,
-          (same_decides _ _).1 c.second-opens,
-          lt-ltb x.number _ c.first-there,
-          lt-ltb y.number _ c.second-there,
+          (same_decides _ _).1 c.first_opens,
+          (same_decides _ _).1 c.second_opens,
+          lt-ltb x.number _ c.first_there,
+          lt-ltb y.number _ c.second_there,
           ne_eqb _ _ c.different,
         )
         refl

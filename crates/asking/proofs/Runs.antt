@@ -21,7 +21,7 @@ use Rattle.asking.specs.Asking.{Ready, led, turn, begun, on_task, on_boxes, is_o
 use Rattle.round.specs.Line.{Event, sent, heard, Other, SaysBytes, Ran}
 use Rattle.asking.specs.Run.{Gone, going_on, asked, boxed, left_in, run}
 use Rattle.asking.specs.Conduct.{NoTask, Contents, Whole, no_task, own_task, ends1, Conducted, Conduct, kept, text, ends_by, From, all_rounds, drawn_out, no_boxes, end0, end1}
-use Rattle.asking.proofs.Refusals.{never, too_few, pair-there, task-refused, task-met, own_met, as_said, boxes-refused, boxes-met, refuses, contents}
+use Rattle.asking.proofs.Refusals.{never, too_few, pair_there, task-refused, task-met, own_met, as_said, boxes-refused, boxes-met, refuses, contents}
 
 ends1-back : (events line : List Event) → ends1 (reverse_aux events line) ≡ ends1 events + ends1 line
 unfolding ends1
@@ -31,7 +31,7 @@ ends1-back (heard w ∷ events) line = ends1-back events (heard w ∷ line)
 
 module _ (H : List ℕ → List ℕ) (t : Task) (good : sound t ≡ true) (r : ℕ) (other : Other) (below : SaysBytes other) where
   few : t.trains < 65536
-  few = omega (arith, (guarantees t good).few-trains)
+  few = omega (arith, (guarantees t good).few_trains)
 
   -- before round n, with these rounds closed
   abbrev ready : ℕ → List (List ℕ) → Ready
@@ -75,7 +75,7 @@ module _ (H : List ℕ → List ℕ) (t : Task) (good : sound t ≡ true) (r : �
             let keeps : kept H t n w ≡ said_bytes (opened n x y) = ap (λ g. cond (is_opened_of n g) w []) read ∙ (ap (λ same. cond same w []) (eq-eqb n n refl) ∙ word) in
             let texts : closed true ≡ text H t n ds h.what (said_bytes (opened n x y)) true = rw (e, keeps) refl in
             let f' = subst (λ z. From H t r (n + 1) h.left (z ∷ ws) rest o) texts f in
-            rw (e, word) (end1 n drawn ws h ds x y rest o k q (pair-there t good drawn h q) l c f')
+            rw (e, word) (end1 n drawn ws h ds x y rest o k q (pair_there t good drawn h q) l c f')
 
         answered : (g : Got Looked) → tests ds ≡ g →
             Goes n drawn ws line (run H other left h.left (settled (ready n ws) (next_digest H (after H (task_bytes t) ws) (closed (is_got g))) g) (reverse_aux (events (is_got g) []) line))
@@ -86,7 +86,7 @@ module _ (H : List ℕ → List ℕ) (t : Task) (good : sound t ≡ true) (r : �
             (events true x.0, x.1, content_round_lem c.0 c.1 c.2 c.3 x.0 _ x.2)
         answered (refused f) a =
             let o : Over = record { outcome = fault f n; digest = next_digest H (after H (task_bytes t) ws) (closed false) } in
-            let last : From H t r n drawn ws (events false []) o = rw e (end0 n drawn ws h ds w f k q (pair-there t good drawn h q) l (refuses H t good n h.what ds w f a)) in
+            let last : From H t r n drawn ws (events false []) o = rw e (end0 n drawn ws h ds w f k q (pair_there t good drawn h q) l (refuses H t good n h.what ds w f a)) in
             subst (Goes n drawn ws line) (sym (run_out left h.left o (reverse_aux (events false []) line))) (events false [], refl, last)
 
         -- the digests are what stands behind the head

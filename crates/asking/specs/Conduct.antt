@@ -38,10 +38,10 @@ module _ (H : List ℕ → List ℕ) (t : Task) where
   pub record Contents (n i : ℕ) (ds : List ℕ) (x y : Opening) : Type 0 where
     pub first : x.train ≡ (pair_at t i).a
     pub second : y.train ≡ (pair_at t i).e
-    pub first-opens : H (text_of n x) ≡ part_of ds x.train
-    pub second-opens : H (text_of n y) ≡ part_of ds y.train
-    pub first-there : x.number < t.paths
-    pub second-there : y.number < t.paths
+    pub first_opens : H (text_of n x) ≡ part_of ds x.train
+    pub second_opens : H (text_of n y) ≡ part_of ds y.train
+    pub first_there : x.number < t.paths
+    pub second_there : y.number < t.paths
     pub different : x.number ≢ y.number
 
   -- A word passes the test exactly if it is an Opened of this round that contents the asker

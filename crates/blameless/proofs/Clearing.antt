@@ -68,6 +68,6 @@ module _ (H : List ℕ → List ℕ) (sized : Sized H) (t : Task) (s : sound t �
 
 pub blameless : (H : List ℕ → List ℕ) → Sized H → Blameless H
 blameless H sized t s p fp r few other bytes drawn b =
-    let g = (guarantees t s).few-trains in
+    let g = (guarantees t s).few_trains in
     let run = conduct H t p r (omega (arith, g)) other bytes drawn in
     cleared H sized t s p fp r few drawn b _ run.0 run.1 (closing H t p r (word_law t (omega (arith, g))) few 0 drawn [] run.0 _ (omega arith) run.2)

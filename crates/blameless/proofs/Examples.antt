@@ -16,4 +16,4 @@ use Rattle.blameless.specs.Examples.{Examples}
 
 pub examples : Examples
 unfolding all_below apart up_to draw values_of order_moduli exchanges row_of bytes read_each rising boxes_of after run cut_from content_from first_from redrawn_from closed_from
-examples = record { task = refl; plan = refl; bytes = refl; all = (refl, refl); not-all = (refl, refl); refused = (refl, refl); words = (refl, refl, refl); other = refl }
+examples = record { task = refl; plan = refl; bytes = refl; all = (refl, refl); not_all = (refl, refl); refused = (refl, refl); words = (refl, refl, refl); other = refl }

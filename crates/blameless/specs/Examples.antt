@@ -55,7 +55,7 @@ pub record Examples : Type 0 where
   pub plan : fits duo each ≡ true
   pub bytes : all_below 256 zeros_drawn ≡ true
   pub all : (pleased.over.outcome ≡ content 2) × (told_with pleased pleased ≡ judged 2 content_all agrees)
-  pub not-all : (displeased.over.outcome ≡ ended.not_content 1) × (told_with displeased displeased ≡ judged 2 (not_content 1 (got tt)) agrees)
+  pub not_all : (displeased.over.outcome ≡ ended.not_content 1) × (told_with displeased displeased ≡ judged 2 (not_content 1 (got tt)) agrees)
   pub refused : (stale.over.outcome ≡ fault 6 1) × (told_with stale stale ≡ judged 1 content_all agrees)
   pub words : (length (transcript pleased) ≡ 8) × (length (transcript displeased) ≡ 8) × (length (transcript stale) ≡ 4)
   pub other : told_with displeased pleased ≡ other_words

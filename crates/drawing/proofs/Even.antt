@@ -33,7 +33,7 @@ module _ {A : Type 0} (n : ℕ) (ss : List ℕ) (Is : A → Type 0) (there : Lis
   same_test : (a : A) → Is a → (r : Drawn) → Within ss r → such (λ ds. same (there ds) a) r ≡ such (same_row (back a)) r
   same_test a h (drew ds left) w =
       one-test (same (there ds) a) (same_row (back a) ds)
-      (λ t. subst (λ es. T (same_row (back a) es)) (ap back (sym (told (there ds) a t)) ∙ one.back-there ds w) (alike-itself (back a)))
+      (λ t. subst (λ es. T (same_row (back a) es)) (ap back (sym (told (there ds) a t)) ∙ one.back_there ds w) (alike-itself (back a)))
       (λ t. subst (λ b. T (same b a)) (sym (one.there_back a h) ∙ ap there (alike-told (back a) ds t)) (itself a))
   same_test a h short w = refl
 
@@ -83,7 +83,7 @@ questions_in_lem m (suc r) (d ∷ ds) h =
 pub even_questions : EvenQuestions
 even_questions m r p l =
     even (2 ^ 32) (question_moduli m r) (Questions m r) (λ is. is) (λ is. is) same_row
-    (record { there_is = questions_are m r; back_in = questions_in_lem m r; there_back = λ a h. refl; back-there = λ ds h. refl })
+    (record { there_is = questions_are m r; back_in = questions_in_lem m r; there_back = λ a h. refl; back_there = λ ds h. refl })
     alike-told alike-itself (serve_replicate (2 ^ 32) m r p l)
 
 -- any test of questions

@@ -60,11 +60,11 @@ module _ {A B C : Type 0} (ss ts : List ℕ) (Is : A → Type 0) (Js : B → Typ
         let q = two.there_back (right c) r.1 in
         let z = pair-both c in
         cc;
-    back-there = λ ds r.
+    back_there = λ ds r.
         let p = left-pair (f (take (length ss) ds)) (h (drop (length ss) ds)) in
         let q = right-pair (f (take (length ss) ds)) (h (drop (length ss) ds)) in
-        let x = one.back-there (take (length ss) ds) (take_in ss ts ds r) in
-        let y = two.back-there (drop (length ss) ds) (drop_in ss ts ds r) in
+        let x = one.back_there (take (length ss) ds) (take_in ss ts ds r) in
+        let y = two.back_there (drop (length ss) ds) (drop_in ss ts ds r) in
         let z = take-append-drop (length ss) ds in
         cc;
   }
@@ -111,19 +111,19 @@ module _ {A : Type 0} (ss : List ℕ) (Is : A → Type 0) (f : List ℕ → A) (
   joined-parts zero [] h = refl
   joined-parts zero (d ∷ ds) h = absurd h
   joined-parts (suc r) ds h =
-      let p = one.back-there (take (length ss) ds) (take_in ss (times r ss) ds h) in
+      let p = one.back_there (take (length ss) ds) (take_in ss (times r ss) ds h) in
       let q = joined-parts r (drop (length ss) ds) (drop_in ss (times r ss) ds h) in
       let z = take-append-drop (length ss) ds in
       cc
 
   pub rows_of : (r : ℕ) → OneToOne (times r ss) (SoMany Is r) (parts f (length ss) r) (flat_map g)
-  rows_of r = record { there_is = parts_are r; back_in = parts_in r; there_back = parts-joined r; back-there = joined-parts r }
+  rows_of r = record { there_is = parts_are r; back_in = parts_in r; there_back = parts-joined r; back_there = joined-parts r }
 
 -- another name for the kind of things
 pub renamed : {A : Type 0} (ss : List ℕ) (Is Js : A → Type 0) (f : List ℕ → A) (g : A → List ℕ) → ((a : A) → Is a → Js a) → ((a : A) → Js a → Is a) →
     OneToOne ss Is f g → OneToOne ss Js f g
 renamed ss Is Js f g to from one =
-    record { there_is = λ ds h. to (f ds) (one.there_is ds h); back_in = λ a h. one.back_in a (from a h); there_back = λ a h. one.there_back a (from a h); back-there = one.back-there }
+    record { there_is = λ ds h. to (f ds) (one.there_is ds h); back_in = λ a h. one.back_in a (from a h); there_back = λ a h. one.there_back a (from a h); back_there = one.back_there }
 
 -- digits
 number-below : (n j d y : ℕ) → d < n → y < n ^ j → d * n ^ j + y < n ^ suc j
@@ -183,5 +183,5 @@ digits n j p =
       there_is = λ ds h. lt→ltb (number_of n ds) (n ^ j) (number_are n j ds h).1;
       back_in = λ x h. digits_in n j x p (ltb→lt x (n ^ j) h);
       there_back = λ x h. number_digits n j x p (ltb→lt x (n ^ j) h);
-      back-there = λ ds h. digits_number n j ds p h;
+      back_there = λ ds h. digits_number n j ds p h;
     }

@@ -148,4 +148,4 @@ row_order (suc (suc i)) (d ∷ ds) h =
     ∙ ap (λ es. d ∷ es) (row_order (suc i) ds (rest_in i d ds h))
 
 pub orders : Orders
-orders k = record { there_is = order_is k; back_in = row_in k; there_back = order_row k; back-there = row_order k }
+orders k = record { there_is = order_is k; back_in = row_in k; there_back = order_row k; back_there = row_order k }

@@ -92,7 +92,7 @@ pub record OneToOne {A : Type 0} (ss : List ℕ) (Is : A → Type 0) (there : Li
   pub there_is : (ds : List ℕ) → T (in_range ss ds) → Is (there ds)
   pub back_in : (a : A) → Is a → T (in_range ss (back a))
   pub there_back : (a : A) → Is a → there (back a) ≡ a
-  pub back-there : (ds : List ℕ) → T (in_range ss ds) → back (there ds) ≡ ds
+  pub back_there : (ds : List ℕ) → T (in_range ss ds) → back (there ds) ≡ ds
 
 -- an order of k paths: each of 0 .. k - 1 once
 abbrev pub IsOrder : ℕ → List ℕ → Type 0

@@ -18,8 +18,8 @@ module _ (n k : ℕ) (xs ys : List CodePair) (same : ys ≡ xs) (i : ℕ) where
   as_many : length (map pair_of xs) ≡ length ys
   as_many = length-map xs pair_of ∙ ap length (sym same)
 
-  pub pair-there : i < length ys → (x : CodePair) → ((d : CodePair) → x ≡ get_or ys i d) → got (pair_of x) ≡ asked_pair task i
-  pair-there l x e =
+  pub pair_there : i < length ys → (x : CodePair) → ((d : CodePair) → x ≡ get_or ys i d) → got (pair_of x) ≡ asked_pair task i
+  pair_there l x e =
       let z : CodePair = record { first = 0; second = 0 } in
       let is : pair_of x ≡ pair_at task i = ap pair_of (e z ∙ ap (λ zs. get_or zs i z) same) ∙ sym (get_or-map pair_of xs i z lowest (omega (arith, ap length same))) in
       ap got is ∙ sym (ap (λ b. cond b (got (pair_at task i)) (refused 7)) (lt-ltb i (length (map pair_of xs)) (omega (arith, as_many))))

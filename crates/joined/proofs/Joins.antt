@@ -167,7 +167,7 @@ module _ (H : List ℕ → List ℕ) (sized : Sized H) (t : Task) (good : sound 
     both_drew : (h : Had Lot) (q : Had ℕ) → lot_in t drawn ≡ got h → question_in t its-drawn ≡ got q → Here
     both_drew h q lot question =
         let had = lot_had H sized t good p fp r few drawn below h lot in
-        let there = (questions_had t (guarantees t good).some_pair (omega (arith, (guarantees t good).few-pairs)) its-drawn q question).pair in
+        let there = (questions_had t (guarantees t good).some_pair (omega (arith, (guarantees t good).few_pairs)) its-drawn q question).pair in
         let rest : T (all_below 256 h.left) = rw had.rest.1 (below-drop 256 had.rest.0 drawn below) in
         let e = round-joined left n ws less drawn its-drawn h q lot question had there line its_line in
         let events = round_on H t p r n h.what q.what in

@@ -123,10 +123,10 @@ pub nothing_after : (H : List ℕ → List ℕ) → NothingAfter H
 nothing_after H =
     let runs = sides_run H in
     record {
-      planner-stays = λ other another t p r drawn h.
+      planner_stays = λ other another t p r drawn h.
           let e = runs.planner_runs other t p r drawn in
           runs.planner_runs another t p r drawn ∙ (stays other another (planner H t p r drawn) [] (subst (λ x. SaysAgain another x.line) e h) ∙ sym e);
-      asker-stays = λ other another t r drawn h.
+      asker_stays = λ other another t r drawn h.
           let e = runs.asker_runs other t r drawn in
           runs.asker_runs another t r drawn ∙ (stays other another (asker H t r drawn) [] (subst (λ x. SaysAgain another x.line) e h) ∙ sym e);
     }

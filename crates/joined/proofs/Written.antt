@@ -49,7 +49,7 @@ asked_for t n i k = rw (eq-eqb n n refl, lt-ltb i _ k) refl
 
 module _ (H : List ℕ → List ℕ) (sized : Sized H) (t : Task) (good : sound t ≡ true) (p : Plan) (fp : fits t p ≡ true) (r : ℕ) (few : r ≤ 2 ^ 32) where
   law : WordLaw t
-  law = word_law t (omega (arith, (guarantees t good).few-trains))
+  law = word_law t (omega (arith, (guarantees t good).few_trains))
 
   good_task : Good t
   good_task = (rising_in t.trains lowest t.pairs (guarantees t good).rises, (guarantees t good).some_pair, (guarantees t good).some_path)
@@ -61,13 +61,13 @@ module _ (H : List ℕ → List ℕ) (sized : Sized H) (t : Task) (good : sound 
   is_round_lem n k = lt-ltb n 4294967296 (omega arith)
 
   pub lot_had : (drawn : List ℕ) → T (all_below 256 drawn) → (h : Had Lot) → lot_in t drawn ≡ got h → LotHad t drawn h
-  lot_had = lots_had t (omega (arith, (guarantees t good).few-paths))
+  lot_had = lots_had t (omega (arith, (guarantees t good).few_paths))
 
   pub task-reads : read_word t (task_bytes t) ≡ got (task (task_bytes t))
   task-reads = law.reads (task (task_bytes t)) (ap is_got (task_law.reads t good))
 
   pub ask-reads : (n i : ℕ) → n < r → i < length t.pairs → read_word t (said_bytes (ask n i)) ≡ got (ask n i)
-  ask-reads n i k l = law.reads (ask n i) (and_from _ _ (is_round_lem n k) (lt-ltb i 65536 (omega (arith, (guarantees t good).few-pairs))))
+  ask-reads n i k l = law.reads (ask n i) (and_from _ _ (is_round_lem n k) (lt-ltb i 65536 (omega (arith, (guarantees t good).few_pairs))))
 
   pub end_reads : (n : ℕ) (c : Bool) → n < r → read_word t (said_bytes (end n c)) ≡ got (end n c)
   end_reads n c k = law.reads (end n c) (is_round_lem n k)
@@ -81,7 +81,7 @@ module _ (H : List ℕ → List ℕ) (sized : Sized H) (t : Task) (good : sound 
   is_opening_lem : (l : Lot) → length l.chances ≡ 32 * t.trains → (i : ℕ) → i < t.trains → is_opening (opening_for p l i) ≡ true
   is_opening_lem l c i k =
       let long : length (part_of l.chances i) ≡ 32 = simp (length-take, length-drop) (omega arith) in
-      and_from _ _ (lt-ltb i 65536 (omega (arith, (guarantees t good).few-trains))) (eq-eqb _ _ long)
+      and_from _ _ (lt-ltb i 65536 (omega (arith, (guarantees t good).few_trains))) (eq-eqb _ _ long)
 
   pub opened-reads : (n : ℕ) (l : Lot) → length l.chances ≡ 32 * t.trains → (i : ℕ) → n < r → i < length t.pairs →
       read_word t (said_bytes (opened_for t n p l i)) ≡ got (opened_for t n p l i)

@@ -47,7 +47,7 @@ pub record SidesRun (H : List ℕ → List ℕ) : Type 0 where
 
 -- What is heard fixes what is sent and how it ends: an other side that says the same up to the last word that is heard, as a refused one, may say anything after it.
 pub record NothingAfter (H : List ℕ → List ℕ) : Type 0 where
-  pub planner-stays : (other another : Other) (t : Task) (p : Plan) (r : ℕ) (drawn : List ℕ) → SaysAgain another (planning-run.showing H other t p r drawn).line →
+  pub planner_stays : (other another : Other) (t : Task) (p : Plan) (r : ℕ) (drawn : List ℕ) → SaysAgain another (planning-run.showing H other t p r drawn).line →
       planning-run.showing H another t p r drawn ≡ planning-run.showing H other t p r drawn
-  pub asker-stays : (other another : Other) (t : Task) (r : ℕ) (drawn : List ℕ) → SaysAgain another (asking-run.asking H other t r drawn).line →
+  pub asker_stays : (other another : Other) (t : Task) (r : ℕ) (drawn : List ℕ) → SaysAgain another (asking-run.asking H other t r drawn).line →
       asking-run.asking H another t r drawn ≡ asking-run.asking H other t r drawn

@@ -67,8 +67,8 @@ pub words_bind : (H : List ℕ → List ℕ) → Sized H → WordsBind H
 words_bind H sized t u s v ws vs rs ss e f same =
     let x = shapes t ws 0 for_boxes rs tt e in
     let y = shapes u vs 0 for_boxes ss tt f in
-    let a = all-texts t (guarantees t s).some-train rs [] x.rounds_are tt in
-    let b = all-texts u (guarantees u v).some-train ss [] y.rounds_are tt in
+    let a = all-texts t (guarantees t s).some_train rs [] x.rounds_are tt in
+    let b = all-texts u (guarantees u v).some_train ss [] y.rounds_are tt in
     elim (binds H sized (task_bytes t) (task_bytes u) (reverse (map text_of rs)) (reverse (map text_of ss)) (task-text t s) (task-text u v) a b same) [
       | inl c ↦ inl c
       | inr q ↦

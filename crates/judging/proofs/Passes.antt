@@ -34,10 +34,10 @@ use Rattle.judging.specs.Honest.{boxes_word, ask_word, opened_word, end_word, Ho
 use Rattle.cutting.proofs.Cuts.{round_with, cut-whole, cut_short_lem}
 
 -- no box differs from itself
-first-same : (ds : List ℕ) (i m : ℕ) → first_from (other_box ds ds) i m ≡ None
+first_same : (ds : List ℕ) (i m : ℕ) → first_from (other_box ds ds) i m ≡ None
 unfolding first_from
-first-same ds i zero = refl
-first-same ds i (suc m) = rw (same-itself (part_of ds i)) (first-same ds (i + 1) m)
+first_same ds i zero = refl
+first_same ds i (suc m) = rw (same-itself (part_of ds i)) (first_same ds (i + 1) m)
 
 module _ (H : List ℕ → List ℕ) (sized : Sized H) (t : Task) (s : sound t ≡ true) (p : Plan) (fp : fits t p ≡ true) where
   g : Guarantees t
@@ -55,7 +55,7 @@ module _ (H : List ℕ → List ℕ) (sized : Sized H) (t : Task) (s : sound t �
     digests = boxes_of H n 0 (held p h.what.order) h.what.chances
 
     reads : (w : Said) → is_said t w ≡ true → read_word t (said_bytes w) ≡ got w
-    reads = (word_law t (omega (arith, g.few-trains))).reads
+    reads = (word_law t (omega (arith, g.few_trains))).reads
 
     round-said : is_round n ≡ true
     round-said = lt-ltb n 4294967296 (omega arith)
@@ -66,7 +66,7 @@ module _ (H : List ℕ → List ℕ) (sized : Sized H) (t : Task) (s : sound t �
         reads (boxes n digests) (and_from _ _ round-said (eq-eqb _ _ l))
 
     read_ask_lem : read_word t (ask_word H t p n i) ≡ got (ask n i)
-    read_ask_lem = reads (ask n i) (and_from _ _ round-said (lt-ltb i 65536 (omega (arith, g.few-pairs))))
+    read_ask_lem = reads (ask n i) (and_from _ _ round-said (lt-ltb i 65536 (omega (arith, g.few_pairs))))
 
     read_end_lem : (c : Bool) → read_word t (end_word H t p n c) ≡ got (end n c)
     read_end_lem c = reads (end n c) round-said
@@ -74,17 +74,17 @@ module _ (H : List ℕ → List ℕ) (sized : Sized H) (t : Task) (s : sound t �
     opening : (j : ℕ) → j < t.trains → (is_opening (opening_for p h.what j) ≡ true) × (length (part_of h.what.chances j) ≡ 32)
     opening j k =
         let l : length (part_of h.what.chances j) ≡ 32 = length-take-le 32 _ (simp length-drop (omega (arith, had.chances))) in
-        (and_from _ _ (lt-ltb j 65536 (omega (arith, g.few-trains))) (eq-eqb _ _ l), l)
+        (and_from _ _ (lt-ltb j 65536 (omega (arith, g.few_trains))) (eq-eqb _ _ l), l)
 
-    pair-there : ((pair_at t i).a < t.trains) × ((pair_at t i).e < t.trains)
-    pair-there = pairs-at t.trains t.pairs lowest good.0 i there
+    pair_there : ((pair_at t i).a < t.trains) × ((pair_at t i).e < t.trains)
+    pair_there = pairs-at t.trains t.pairs lowest good.0 i there
 
     opened-long : length (opened_word H t p n h.what i) ≡ 75
-    opened-long = opened-size n (opening_for p h.what (pair_at t i).a) (opening_for p h.what (pair_at t i).e) (opening (pair_at t i).a pair-there.0).1 (opening (pair_at t i).e pair-there.1).1
+    opened-long = opened-size n (opening_for p h.what (pair_at t i).a) (opening_for p h.what (pair_at t i).e) (opening (pair_at t i).a pair_there.0).1 (opening (pair_at t i).e pair_there.1).1
 
     read_opened_lem : read_word t (opened_word H t p n h.what i) ≡ got (opened_for t n p h.what i)
     read_opened_lem =
-        reads (opened_for t n p h.what i) (and_from _ _ round-said (and_from _ _ (opening (pair_at t i).a pair-there.0).0 (opening (pair_at t i).e pair-there.1).0))
+        reads (opened_for t n p h.what i) (and_from _ _ round-said (and_from _ _ (opening (pair_at t i).a pair_there.0).0 (opening (pair_at t i).e pair_there.1).0))
 
     abbrev whole : Bool → Round
     whole c = round_with t n few (boxes_word H t p n h.what) digests (ask_word H t p n i) i read_boxes_lem read_ask_lem (end_word H t p n c) (opened_word H t p n h.what i) c
@@ -111,10 +111,10 @@ module _ (H : List ℕ → List ℕ) (sized : Sized H) (t : Task) (s : sound t �
         let word = opened_word H t p n h.what i in
         let a : other_answer t n p h.what (whole c) ≡ None =
         rw (eq-eqb (length word) 75 opened-long, lt-ltb i (length t.pairs) there, same-itself (take 35 (drop 5 word)), same-itself (take 35 (drop 40 word))) refl in
-        again (whole c) (ap (λ o. or_else o (other_answer t n p h.what (whole c))) (first-same digests 0 t.trains) ∙ a)
+        again (whole c) (ap (λ o. or_else o (other_answer t n p h.what (whole c))) (first_same digests 0 t.trains) ∙ a)
 
     short_again : redrawn_in H t (Some p) n short drawn ≡ agrees
-    short_again = again short (ap (λ o. or_else o None) (first-same digests 0 t.trains))
+    short_again = again short (ap (λ o. or_else o None) (first_same digests 0 t.trains))
 
     cut-round : (c : Bool) (ws : List (List ℕ)) →
         cut_from t n for_boxes (boxes_word H t p n h.what ∷ ask_word H t p n i ∷ opened_word H t p n h.what i ∷ end_word H t p n c ∷ ws)
@@ -135,7 +135,7 @@ module _ (H : List ℕ → List ℕ) (sized : Sized H) (t : Task) (s : sound t �
     redrawn : redrawn_from H t (Some p) n drawn rounds ≡ agrees
 
   had_from : (drawn : List ℕ) (h : Had Lot) → T (all_below 256 drawn) → lot_in t drawn ≡ got h → LotHad t drawn h
-  had_from drawn h b e = lots_had t (omega (arith, g.few-paths)) drawn b h e
+  had_from drawn h b e = lots_had t (omega (arith, g.few_paths)) drawn b h e
 
   found : (n : ℕ) (drawn : List ℕ) (ws texts : List (List ℕ)) (c : Content) → Honest H t p n drawn ws texts c → T (all_below 256 drawn) → n + length texts ≤ 2 ^ 24 →
       Found n drawn ws texts c

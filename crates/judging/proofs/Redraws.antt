@@ -85,7 +85,7 @@ module _ (H : List ℕ → List ℕ) (t : Task) (p : Plan) where
       where
         openings : IsOpened H t p n l r → r.asked.pair < length t.pairs → (b c : Bool) → same_row (opening_in 5 r.opened) (opening_in 5 word) ≡ b →
             same_row (opening_in 40 r.opened) (opening_in 40 word) ≡ c → Compared (cond b (cond c None (Some (pair_at t r.asked.pair).e)) (Some (pair_at t r.asked.pair).a))
-        openings o k true true x y = same record { boxes-same = h; pair-there = λ _. k; first-same = λ _. (same_decides _ _).0 x; second-same = λ _. (same_decides _ _).0 y }
+        openings o k true true x y = same record { boxes_same = h; pair_there = λ _. k; first_same = λ _. (same_decides _ _).0 x; second_same = λ _. (same_decides _ _).0 y }
         openings o k true false x y = other _ (second h o k ((same_decides _ _).0 x) (λ q. both _ (same_true _ _ q) y))
         openings o k false c x y = other _ (first h o k (λ q. both _ (same_true _ _ q) x))
 
@@ -99,7 +99,7 @@ module _ (H : List ℕ → List ℕ) (t : Task) (p : Plan) where
         opened true e = pair (eqb-true _ _ e) _ refl
         opened false e =
             let no = eqb-false (length r.opened) 75 e in
-            same record { boxes-same = h; pair-there = λ o. absurd (no o); first-same = λ o. absurd (no o); second-same = λ o. absurd (no o) }
+            same record { boxes_same = h; pair_there = λ o. absurd (no o); first_same = λ o. absurd (no o); second_same = λ o. absurd (no o) }
 
     compared : Compared (other_train H t n p l r)
     compared = go _ (first_of is 0 t.trains)
@@ -136,10 +136,10 @@ module _ (H : List ℕ → List ℕ) (t : Task) (p : Plan) where
     opened_as h = ap (λ o. or_else o (other_answer t n p l r)) (no_other h)
 
     told_same : Same H t p n l r → other_train H t n p l r ≡ None
-    told_same s = opened_as s.boxes-same ∙ go (cases_Bool (eqb (length r.opened) 75))
+    told_same s = opened_as s.boxes_same ∙ go (cases_Bool (eqb (length r.opened) 75))
       where
         go : (eqb (length r.opened) 75 ≡ true) ⊎ (eqb (length r.opened) 75 ≡ false) → other_answer t n p l r ≡ None
-        go (inl e) = let o = eqb-true _ _ e in rw (e, lt-ltb _ _ (s.pair-there o), same_true _ _ (s.first-same o), same_true _ _ (s.second-same o)) refl
+        go (inl e) = let o = eqb-true _ _ e in rw (e, lt-ltb _ _ (s.pair_there o), same_true _ _ (s.first_same o), same_true _ _ (s.second_same o)) refl
         go (inr e) = rw e refl
 
     told-other : (i : ℕ) → Other H t p n l r i → other_train H t n p l r ≡ Some i

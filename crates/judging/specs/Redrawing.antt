@@ -30,10 +30,10 @@ module _ (H : List ℕ → List ℕ) (t : Task) (p : Plan) where
 
     -- each box, and the Opened if there is one
     pub record Same : Type 0 where
-      pub boxes-same : SameBoxes t.trains
-      pub pair-there : IsOpened → r.asked.pair < length t.pairs
-      pub first-same : IsOpened → SameOpening 5
-      pub second-same : IsOpened → SameOpening 40
+      pub boxes_same : SameBoxes t.trains
+      pub pair_there : IsOpened → r.asked.pair < length t.pairs
+      pub first_same : IsOpened → SameOpening 5
+      pub second_same : IsOpened → SameOpening 40
 
     -- the first train for which it is not so, and why
     pub data Other : ℕ → Type 0 where

@@ -38,9 +38,9 @@ pairs-alike t good p q fp fq f r = record { alike = alike; there_is = λ cs. ref
     alike = record {
       there = λ cs. pair_coins t p q (asked (view t p f cs)) cs;
       back = λ cs. pair_coins t q p (asked (view t q f cs)) cs;
-      there-fits = λ cs h. rw (there_is p q cs) (s.there-fits cs h);
+      there_fits = λ cs h. rw (there_is p q cs) (s.there_fits cs h);
       back_fits = λ cs h. rw (there_is q p cs) (s.back_fits cs h);
-      back-there = λ cs h. simp there_is (s.back-there cs h);
+      back_there = λ cs h. simp there_is (s.back_there cs h);
       there_back = λ cs h. simp there_is (s.there_back cs h);
       same = λ cs h. as_seen t good p f cs [] ∙ ap (λ x. x.shown) (s.same cs h) ∙ sym (as_seen t good q f (paired t p q (steady t f) cs) []) ∙ ap (view t q f) (sym (there_is p q cs));
     }

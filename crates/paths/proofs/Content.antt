@@ -49,9 +49,9 @@ rounds-content t good p fp f (c ∷ cs) ss h g =
     let s = round t p c (within t (f ss)) in
     rounds-content t good p fp f cs (ss ++ (s ∷ [])) h.1 (content_push t ss s g (round-content t good p fp c h.0 (within t (f ss)) (within-there t good (f ss))))
 
-pub passes-all : Passes
+pub passes_all : Passes
 unfolding all_content
-passes-all t good p fp f r cs h = rounds-content t good p fp f cs [] (all_coins t cs h.1) tt
+passes_all t good p fp f r cs h = rounds-content t good p fp f cs [] (all_coins t cs h.1) tt
 
 pub reads_clipped : ReadsClipped
 reads_clipped t good b long h = record { fit = fits_from t (clip t.paths b) (length-map b to ∙ long) (at-below t.paths (clip t.paths b) below) (at-apart (clip t.paths b) t.pairs none apart'); kept = kept }

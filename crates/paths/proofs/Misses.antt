@@ -61,7 +61,7 @@ turns_show =
       gaps = λ t good p fp i l d ns.
           let h = pair-paths t good p fp i l in
           gap-turned t.paths d good.2 (at p (pair_at t i).a) (at p (pair_at t i).e) h.1 h.2;
-      one-fits = tt;
+      one_fits = tt;
       other_fits = tt;
       never = λ f d e ms ns s.
           let only : within duo (f []) ≡ 0 = omega (arith, within-there duo (tt, lit< tt, lit< tt) (f [])) in

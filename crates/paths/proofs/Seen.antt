@@ -97,9 +97,9 @@ module _ (t : Task) (good : Good t) (p q : Plan) (fp : T (fits t p)) (fq : T (fi
 pub stops-alike : StopsAlike
 stops-alike t good p q fp fq f r =
     record {
-      there-fits = seen-fits t good p q fp fq f r;
+      there_fits = seen-fits t good p q fp fq f r;
       back_fits = seen-fits t good q p fq fp f r;
-      back-there = seen_back t good p q fp fq f r;
+      back_there = seen_back t good p q fp fq f r;
       there_back = seen_back t good q p fq fp f r;
       same = λ cs h. seen_same t good p q fp fq f cs;
       later = λ cs. rw (← length-map (seen t p f cs).shown (λ s. s.asked)) (drop-paired t p q (asked (seen t p f cs).shown) cs);

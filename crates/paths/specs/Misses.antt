@@ -29,7 +29,7 @@ pub record TurnsShow : Type 0 where
   pub gaps : (t : Task) → Good t → (p : Plan) → T (fits t p) → (i : ℕ) → i < length t.pairs → (d : ℕ) (ns : List ℕ) →
       let s = round t p (record { order = turned t.paths d; chances = ns }) i in
       gap t.paths s.first.holds s.second.holds ≡ gap t.paths (at p (pair_at t i).a) (at p (pair_at t i).e)
-  pub one-fits : T (fits duo (0 ∷ 1 ∷ []))
+  pub one_fits : T (fits duo (0 ∷ 1 ∷ []))
   pub other_fits : T (fits duo (0 ∷ 2 ∷ []))
   pub never : (f : Asker) (d e : ℕ) (ms ns : List ℕ) →
       view duo (0 ∷ 1 ∷ []) f (record { order = turned 3 d; chances = ms } ∷ []) ≢ view duo (0 ∷ 2 ∷ []) f (record { order = turned 3 e; chances = ns } ∷ [])

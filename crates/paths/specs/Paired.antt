@@ -26,8 +26,8 @@ pub record PairedCoin (t : Task) (p q : Plan) (i : ℕ) : Type 0 where
   pub rising : (x y : ℕ) → Other t q i x → Other t q i y → x < y → beta_at t p q i x < beta_at t p q i y
   pub inside : (x : ℕ) → x < t.paths → beta_at t p q i x < t.paths
   pub inverse : (x : ℕ) → beta_at t q p i (beta_at t p q i x) ≡ x
-  pub first-order : (c : Coin) → at (pair_coin t p q i c).order (at q (pair_at t i).a) ≡ at c.order (at p (pair_at t i).a)
-  pub second-order : (c : Coin) → at (pair_coin t p q i c).order (at q (pair_at t i).e) ≡ at c.order (at p (pair_at t i).e)
+  pub first_order : (c : Coin) → at (pair_coin t p q i c).order (at q (pair_at t i).a) ≡ at c.order (at p (pair_at t i).a)
+  pub second_order : (c : Coin) → at (pair_coin t p q i c).order (at q (pair_at t i).e) ≡ at c.order (at p (pair_at t i).e)
   pub chances_stay : (c : Coin) → (pair_coin t p q i c).chances ≡ c.chances
   pub is_coin : (c : Coin) → IsCoin t c → IsCoin t (pair_coin t p q i c)
   pub back : (c : Coin) → IsCoin t c → pair_coin t q p i (pair_coin t p q i c) ≡ c

@@ -31,16 +31,16 @@ Caught =
 pub record Alike (t : Task) (p q : Plan) (f : Asker) (r : ℕ) : Type 0 where
   pub there : List Coin → List Coin
   pub back : List Coin → List Coin
-  pub there-fits : (cs : List Coin) → Coins t r cs → Coins t r (there cs)
+  pub there_fits : (cs : List Coin) → Coins t r cs → Coins t r (there cs)
   pub back_fits : (cs : List Coin) → Coins t r cs → Coins t r (back cs)
-  pub back-there : (cs : List Coin) → Coins t r cs → back (there cs) ≡ cs
+  pub back_there : (cs : List Coin) → Coins t r cs → back (there cs) ≡ cs
   pub there_back : (cs : List Coin) → Coins t r cs → there (back cs) ≡ cs
   pub same : (cs : List Coin) → Coins t r cs → view t p f cs ≡ view t q f (there cs)
 
 -- The main promise. A plan that fits passes whatever is asked; whatever is shown, by however clever asking over however many rounds, would be shown as often
 -- for any other plan that fits; and where none fits, a cheating planner is lucky in at most (pairs - 1)^r of the pairs^r ways to ask.
 pub record Whole (t : Task) : Type 0 where
-  pub passes-all : (p : Plan) → T (fits t p) → (f : Asker) (r : ℕ) (cs : List Coin) → Coins t r cs → T (all_content t (view t p f cs))
+  pub passes_all : (p : Plan) → T (fits t p) → (f : Asker) (r : ℕ) (cs : List Coin) → Coins t r cs → T (all_content t (view t p f cs))
   pub alike : (p q : Plan) → T (fits t p) → T (fits t q) → (f : Asker) (r : ℕ) → Alike t p q f r
   pub caught : ((p : Plan) → T (fits t p) → ⊥) → (f : Cheat) → ((s : List Shown) → length (f s) ≡ t.trains) → (r : ℕ) →
       lucky t f r ≤ (length t.pairs - 1) ^ r

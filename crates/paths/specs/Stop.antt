@@ -47,9 +47,9 @@ paired t p q f cs = pair_coins t p q (asked (seen t p f cs).shown) cs
 
 -- the same is seen of two plans, endings too, with coins paired off one to one; coins of rounds that were not shown stay
 pub record SeenAlike (t : Task) (p q : Plan) (f : Stopper) (r : ℕ) : Type 0 where
-  pub there-fits : (cs : List Coin) → Coins t r cs → Coins t r (paired t p q f cs)
+  pub there_fits : (cs : List Coin) → Coins t r cs → Coins t r (paired t p q f cs)
   pub back_fits : (cs : List Coin) → Coins t r cs → Coins t r (paired t q p f cs)
-  pub back-there : (cs : List Coin) → Coins t r cs → paired t q p f (paired t p q f cs) ≡ cs
+  pub back_there : (cs : List Coin) → Coins t r cs → paired t q p f (paired t p q f cs) ≡ cs
   pub there_back : (cs : List Coin) → Coins t r cs → paired t p q f (paired t q p f cs) ≡ cs
   pub same : (cs : List Coin) → Coins t r cs → seen t p f cs ≡ seen t q f (paired t p q f cs)
   pub later : (cs : List Coin) → drop (length (seen t p f cs).shown) (paired t p q f cs) ≡ drop (length (seen t p f cs).shown) cs

@@ -59,7 +59,7 @@ module _ (H : List ℕ → List ℕ) (size : (x : List ℕ) → length (H x) ≡
     back : paired_bytes H f t q p r (paired_bytes H f t p q r bs) ≡ bs
     back =
         ap (λ ls. aim_lots t (orders_of (paired H f t q p r ls)) (paired_bytes H f t p q r bs)) lots-paired
-        ∙ (ap (λ ls. aim_lots t (orders_of ls) (paired_bytes H f t p q r bs)) (secret.back-there lots (lots_are t few r bs b))
+        ∙ (ap (λ ls. aim_lots t (orders_of ls) (paired_bytes H f t p q r bs)) (secret.back_there lots (lots_are t few r bs b))
         ∙ (lots-first t _ aimed_quotient _ _ orders (as_many ∙ sym (length-map _ _)) bs ∙ lots_own t few r bs b))
 
     -- the same bytes are left over
@@ -84,7 +84,7 @@ module _ (H : List ℕ → List ℕ) (size : (x : List ℕ) → length (H x) ≡
         left = turns_aimed t r _ (omega (arith, m, lots-few t r bs)) o bs ∙ left p q fp fq bs b _ (by_lots-all t r bs).enough;
         places = λ os k. lots-first t _ (λ s x v e l. refl) _ os o (m ∙ sym k) bs;
         quotients = λ os k. lots-first t _ aimed_quotient _ os o (m ∙ sym k) bs;
-        back-there = back p q fp fq bs b;
+        back_there = back p q fp fq bs b;
         there_back = back q p fq fp bs b;
         same = ap hidden x ∙ (s.same (lots_in t r bs) ∙ ap hidden (sym y));
         twins = rw (x, y, l) (s.twins (lots_in t r bs));
@@ -109,6 +109,6 @@ keeps_secret_drawn H size t good few p q fp fq f r = record { drawn = there; as_
     often : (test : Hidden → Bool) (many : ℕ) → count (λ bs. test (hidden (showing H (unaware f) t p r bs))) (asks 256 many) ≡ count (λ bs. test (hidden (showing H (unaware f) t q r bs))) (asks 256 many)
     often test many =
         as_often 256 many (λ bs. test (hidden (showing H (unaware f) t q r bs))) (paired_bytes H f t p q r) (paired_bytes H f t q p r)
-        (λ bs h. let b = bytes_of many bs h in (row_paired many bs _ h (there bs b).as_many (there bs b).bytes, (there bs b).back-there))
-        (λ bs h. let b = bytes_of many bs h in (row_paired many bs _ h (back bs b).as_many (back bs b).bytes, (back bs b).back-there))
+        (λ bs h. let b = bytes_of many bs h in (row_paired many bs _ h (there bs b).as_many (there bs b).bytes, (there bs b).back_there))
+        (λ bs h. let b = bytes_of many bs h in (row_paired many bs _ h (back bs b).as_many (back bs b).bytes, (back bs b).back_there))
         _ (λ bs h. ap test (there bs (bytes_of many bs h)).same)

@@ -25,7 +25,7 @@ module _ (H : List ℕ → List ℕ) (size : (x : List ℕ) → length (H x) ≡
         questions = λ ls. (whole p q fp fq ls).below;
         fitting = λ ls h. pair_fits t good p q fp fq _ (whole p q fp fq ls).below ls h;
         as_many = λ ls. pair-long t p q _ ls;
-        back-there = back p q fp fq;
+        back_there = back p q fp fq;
         there_back = back q p fq fp;
         same = λ ls. let w = whole p q fp fq ls in let e = twins-hidden H size t p q ((fits-parts t p fp).0 ∙ sym (fits-parts t q fq).0) _ _ _ _ w.twins in let o = w.outcome in λ j. record { line = e j; outcome = o j };
         twins = λ ls. let w = whole p q fp fq ls in (w.rounds, w.twins);

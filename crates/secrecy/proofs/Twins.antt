@@ -179,7 +179,7 @@ module _ (H : List ℕ → List ℕ) (size : (x : List ℕ) → length (H x) ≡
       let ms = pair_lots t p q (asked_lots H other left (next H other left (state p n d) l ls xs w i v) ls (heard v ∷ line)) ls in
       let c = pairs_coin t good p q fp fq i j in
       let g = says _ _ _ _ (closed n l m refl us vs xs ys u s) in
-      let z = opened n l m refl i j (sym (c.first-order (coin_of_lot t l))) (sym (c.second-order (coin_of_lot t l))) w us vs xs ys u s in
+      let z = opened n l m refl i j (sym (c.first_order (coin_of_lot t l))) (sym (c.second_order (coin_of_lot t l))) w us vs xs ys u s in
       let h = says _ _ _ _ z in
       let y = more (n + 1) (l ∷ us) (m ∷ vs) (omega arith) _ _ (ends n d e l m i w v) ls _ _ (told v _ _ _ _ z) in
       rw (

@@ -60,7 +60,7 @@ pub record SecretDrawn (H : List ℕ → List ℕ) (t : Task) (p q : Plan) (f : 
   pub left : in_turn (lot_in t) r (paired_bytes H f t p q r bs) ≡ each_as (paired H f t p q r) (in_turn (lot_in t) r bs)
   pub places : (os : List (List ℕ)) → length os ≡ length (lots_in t r bs) → rewrite_lots blank t os (paired_bytes H f t p q r bs) ≡ rewrite_lots blank t os bs
   pub quotients : (os : List (List ℕ)) → length os ≡ length (lots_in t r bs) → rewrite_lots aimed t os (paired_bytes H f t p q r bs) ≡ rewrite_lots aimed t os bs
-  pub back-there : paired_bytes H f t q p r (paired_bytes H f t p q r bs) ≡ bs
+  pub back_there : paired_bytes H f t q p r (paired_bytes H f t p q r bs) ≡ bs
   pub there_back : paired_bytes H f t p q r (paired_bytes H f t q p r bs) ≡ bs
   pub same : hidden (showing H (unaware f) t p r bs) ≡ hidden (showing H (unaware f) t q r (paired_bytes H f t p q r bs))
   pub twins :

@@ -18,7 +18,7 @@ pub record Secret (H : List ℕ → List ℕ) (t : Task) (p q : Plan) (f : Other
   pub questions : (ls : List Lot) → T (all_below (length t.pairs) (asked H (unaware f) t p r ls))
   pub fitting : (ls : List Lot) → Lots t ls → Lots t (paired H f t p q r ls)
   pub as_many : (ls : List Lot) → length (paired H f t p q r ls) ≡ length ls
-  pub back-there : (ls : List Lot) → Lots t ls → paired H f t q p r (paired H f t p q r ls) ≡ ls
+  pub back_there : (ls : List Lot) → Lots t ls → paired H f t q p r (paired H f t p q r ls) ≡ ls
   pub there_back : (ls : List Lot) → Lots t ls → paired H f t p q r (paired H f t q p r ls) ≡ ls
   pub same : (ls : List Lot) → hidden (show_lots H (unaware f) t p r ls) ≡ hidden (show_lots H (unaware f) t q r (paired H f t p q r ls))
   pub twins : (ls : List Lot) → let ms = paired H f t p q r ls in TwinRuns H t p q ls ms (show_lots H (unaware f) t p r ls) (show_lots H (unaware f) t q r ms)

@@ -121,7 +121,7 @@ module _ (H : List ℕ → List ℕ) (other : Other) (s : Ready) (good : sound s
         | inl e ↦ (
             let c = two i e in
             let k = c.3 in
-            subst (All (Opens H s.round ds)) (sym c.2) ((few k.first there.0, k.first-opens), ((few k.second there.1, k.second-opens), tt)))
+            subst (All (Opens H s.round ds)) (sym c.2) ((few k.first there.0, k.first_opens), ((few k.second there.1, k.second_opens), tt)))
         | inr e ↦ subst (λ b. All (Opens H s.round ds) (cond b (openings_of (answer other s line i)) [])) (sym e) tt
       ]
     where
@@ -129,7 +129,7 @@ module _ (H : List ℕ → List ℕ) (other : Other) (s : Ready) (good : sound s
       there = pairs-at t.trains t.pairs lowest good_task.0 i l
 
       few : {a b : ℕ} → a ≡ b → b < t.trains → a < 2 ^ 16
-      few e l = omega (arith, (guarantees t good).few-trains)
+      few e l = omega (arith, (guarantees t good).few_trains)
 
   pub all_open : (m : ℕ) → m ≤ length t.pairs → All (Opens H s.round ds) (openings H other s line m)
   unfolding openings
@@ -162,7 +162,7 @@ module _ (H : List ℕ → List ℕ) (other : Other) (s : Ready) (good : sound s
         let told = subst (All (Tells all)) c.2 (of_one (Tells all) (length t.pairs) (tells all agreed) i l) in
         let x = at_made (λ j. number_of j all) t.trains (pair_at t i).a there.0 ∙ ap (λ j. number_of j all) (sym k.first) ∙ told.0 in
         let y = at_made (λ j. number_of j all) t.trains (pair_at t i).e there.1 ∙ ap (λ j. number_of j all) (sym k.second) ∙ told.1.0 in
-        rw (x, y) (from_true _ (and_from _ _ (and_from _ _ (lt-ltb _ _ k.first-there) (lt-ltb _ _ k.second-there)) (not_from_false _ (ne_eqb _ _ k.different))))
+        rw (x, y) (from_true _ (and_from _ _ (and_from _ _ (lt-ltb _ _ k.first_there) (lt-ltb _ _ k.second_there)) (not_from_false _ (ne_eqb _ _ k.different))))
 
     pub caught : ((p : Plan) → T (fits t p) → ⊥) → ⊥
     unfolding plan

@@ -66,7 +66,7 @@ module _ (t : Task) (r : ℕ) where
 
   shared : sound t ≡ true → (p : List ℕ → Bool) (many : ℕ) →
       pairs_of t ^ r * how_many (2 ^ 32) moduli p many ≡ count p (asks (pairs_of t) r) * how_many (2 ^ 32) moduli (λ _. true) many
-  shared good p many = let g = guarantees t good in question_shares (pairs_of t) r (omega (arith, g.some_pair)) (omega (arith, g.few-pairs)) p many
+  shared good p many = let g = guarantees t good in question_shares (pairs_of t) r (omega (arith, g.some_pair)) (omega (arith, g.few_pairs)) p many
 
 -- in proportion
 share : (x a P S W p : ℕ) → x * P ≡ p * S → p ≤ a → x * (P * W) ≤ a * (S * W)

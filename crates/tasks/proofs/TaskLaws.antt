@@ -191,12 +191,12 @@ count_fits bs h e = omega (arith, task-length bs (task_in h (drop 6 bs)) (sym e)
 
 -- what a sound task guarantees, one by one
 pub record Guarantees (t : Task) : Type 0 where
-  pub some-train : 1 ≤ t.trains
-  pub few-trains : t.trains ≤ 1024
+  pub some_train : 1 ≤ t.trains
+  pub few_trains : t.trains ≤ 1024
   pub some_path : 1 ≤ t.paths
-  pub few-paths : t.paths ≤ 64
+  pub few_paths : t.paths ≤ 64
   pub some_pair : 1 ≤ length t.pairs
-  pub few-pairs : length t.pairs ≤ 4096
+  pub few_pairs : length t.pairs ≤ 4096
   pub rises : rising t.trains lowest t.pairs ≡ true
 
 pub guarantees : (t : Task) → sound t ≡ true → Guarantees t
@@ -205,12 +205,12 @@ guarantees t s =
     let q = and_parts _ (within 1 4096 (length t.pairs)) p.0 in
     let r = and_parts (within 1 1024 t.trains) (within 1 64 t.paths) q.0 in
     record {
-      some-train = within_least 1 1024 _ r.0;
-      few-trains = within_most 1 1024 _ r.0;
+      some_train = within_least 1 1024 _ r.0;
+      few_trains = within_most 1 1024 _ r.0;
       some_path = within_least 1 64 _ r.1;
-      few-paths = within_most 1 64 _ r.1;
+      few_paths = within_most 1 64 _ r.1;
       some_pair = within_least 1 4096 _ q.1;
-      few-pairs = within_most 1 4096 _ q.1;
+      few_pairs = within_most 1 4096 _ q.1;
       rises = p.1;
     }
 
@@ -221,8 +221,8 @@ pub sound_from : (t : Task) → Guarantees t → sound t ≡ true
 sound_from t g =
     and_from _ _
     (and_from _ _
-    (and_from _ _ (is_within 1 1024 _ g.some-train g.few-trains) (is_within 1 64 _ g.some_path g.few-paths))
-    (is_within 1 4096 _ g.some_pair g.few-pairs))
+    (and_from _ _ (is_within 1 1024 _ g.some_train g.few_trains) (is_within 1 64 _ g.some_path g.few_paths))
+    (is_within 1 4096 _ g.some_pair g.few_pairs))
     g.rises
 
 -- the task that is kept is the one that was read

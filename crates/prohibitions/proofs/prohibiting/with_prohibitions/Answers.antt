@@ -25,7 +25,7 @@ invariant_of-result c =
     let g = build_guarantees c.args.task.now c.args.prohibitions.now v c.if-trains-gt1024.false c.in_ok-pairs.ensures in
     let l = length-map (vec_items v) pair_of in
     let n = v.ok.0 in
-    (g.some-train, (g.few-trains, (g.some_path, (g.few-paths, (omega (arith, g.some-pair, l, n), (omega (arith, g.few-pairs, l, n), (g.rises, tt)))))))
+    record { some_train = g.some_train; few_trains = g.few_trains; some_path = g.some_path; few_paths = g.few_paths; some_pair = omega (arith, g.some_pair, l, n); few_pairs = omega (arith, g.few_pairs, l, n); rising_pairs = g.rises }
 
 pub returns : goal.returns
 returns c =

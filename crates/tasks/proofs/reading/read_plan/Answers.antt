@@ -26,7 +26,7 @@ invariant_of-result c =
     let e = ap got (rw take_rest at m.items) ∙ c.in_ok-check_plan.ensures in
     let l = (plan-sound (task_of c.args.task.now) (omega arith) c.args.bytes.now _ (sym e)).0 in
     let n = c.in_ok-paths.paths.ok.0 in
-    (omega arith, (omega arith, tt))
+    record { some_train = omega arith; few_trains = omega arith }
 
 pub returns : goal.returns
 returns c =

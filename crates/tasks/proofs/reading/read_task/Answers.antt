@@ -28,7 +28,7 @@ invariant_of-result c =
     let g = guarantees _ (task-sound c.args.bytes.now _ (sym e)) in
     let l = length-map (vec_items c.in_ok-pairs.pairs) pair_of in
     let n = c.in_ok-pairs.pairs.ok.0 in
-    (g.some_train, (g.few_trains, (g.some_path, (g.few_paths, (omega (arith, g.some_pair, l, n), (omega (arith, g.few_pairs, l, n), (g.rises, tt)))))))
+    record { some_train = g.some_train; few_trains = g.few_trains; some_path = g.some_path; few_paths = g.few_paths; some_pair = omega (arith, g.some_pair, l, n); few_pairs = omega (arith, g.few_pairs, l, n); rising_pairs = g.rises }
 
 pub returns : goal.returns
 returns c =
