@@ -4,4 +4,4 @@ use Rattle.blameless.proofs.Clearing.{blameless}
 use Rattle.blameless.proofs.blameless_holds.Goals as goal
 
 pub returns : goal.returns
-returns c = record { blameless = blameless sha256 length-sha256; any-hash = blameless }
+returns c = record { blameless = blameless sha256 length-sha256; any_hash = blameless }

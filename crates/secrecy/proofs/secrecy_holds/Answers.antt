@@ -15,4 +15,4 @@ all : (H : List ℕ → List ℕ) → ((x : List ℕ) → length (H x) ≡ 32) �
 all H size = record { lots = keeps_secret H size; drawn = keeps_secret_drawn H size; digests = digests H size }
 
 pub returns : goal.returns
-returns c = record { secrecy = all sha256 length-sha256; any-hash = all; by_lots = by_lots-all; as-coins = pairs_as_coins; as_values = aims_values; glass = glass-shows }
+returns c = record { secrecy = all sha256 length-sha256; any_hash = all; by_lots = by_lots-all; as_coins = pairs_as_coins; as_values = aims_values; glass = glass-shows }

@@ -9,9 +9,9 @@ returns c =
     record {
       along = sound-along;
       whole = sound-whole;
-      along-drawn = sound-along-drawn;
-      whole-drawn = sound-drawn;
-      along-enough = sound-along-enough;
-      whole-enough = sound-enough;
+      along_drawn = sound-along-drawn;
+      whole_drawn = sound-drawn;
+      along_enough = sound-along-enough;
+      whole_enough = sound-enough;
       found = found_boxes;
     }

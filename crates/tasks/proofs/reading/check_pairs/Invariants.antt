@@ -6,4 +6,4 @@ use Rattle.tasks.proofs.reading.check_pairs.Given as goal
 
 abbrev pub invariant-loop-i : goal.invariant-loop-i
 invariant-loop-i l =
-    read_each (read_pair l.head.trains) 4 (pair_of l.last) (l.head.pairs - l.-i) l.rest ≡ read_pairs l.head.trains l.head.pairs l.bytes
+    read_each (read_pair l.head.trains) 4 (pair_of l.last) (l.head.pairs - l._i) l.rest ≡ read_pairs l.head.trains l.head.pairs l.bytes

@@ -5,4 +5,4 @@ use Rattle.tasks.proofs.reading.check_paths.Given as goal
 
 abbrev pub invariant-loop-i : goal.invariant-loop-i
 invariant-loop-i l =
-    read_each (read_path l.task.paths) 1 tt (l.task.trains - l.-i) l.rest ≡ read_paths l.task.paths l.task.trains l.bytes
+    read_each (read_path l.task.paths) 1 tt (l.task.trains - l._i) l.rest ≡ read_paths l.task.paths l.task.trains l.bytes

@@ -6,4 +6,4 @@ use Rattle.tasks.proofs.reading.collect_pairs.Given as goal
 
 abbrev pub invariant-loop-i : goal.invariant-loop-i
 invariant-loop-i l =
-    (map pair_of (vec_items l.pairs) ++ pairs_from (l.count - l.-i) l.rest ≡ pairs_from l.count l.bytes) × (4 * (l.count - l.-i) ≤ length l.rest)
+    (map pair_of (vec_items l.pairs) ++ pairs_from (l.count - l._i) l.rest ≡ pairs_from l.count l.bytes) × (4 * (l.count - l._i) ≤ length l.rest)
