@@ -33,8 +33,8 @@ fn value_at(bytes: &[u8], at: usize) -> u32
 
 // A number below `below` from the bytes that begin at `start`.
 pub(crate) fn draw_number(below: u32, bytes: &[u8], start: usize) -> Result<Number, Fault>
-    requires below_nonzero { 0 < below }
-    requires start_in_bounds { start ≤ length bytes.now }
+    requires some { 0 < below }
+    requires within { start ≤ length bytes.now }
     ensures number { gives (number_at bytes.now) result ≡ number_in below (drop start bytes.now) }
     ensures within { IfOk result (λ n. (n.value < below) × (n.end ≤ length bytes.now)) }
 {

@@ -44,8 +44,8 @@ fn draw_exchanges(row: &mut [u8], bytes: &[u8]) -> Result<usize, Fault>
 
 // An order of so many paths.
 pub(crate) fn draw_order(paths: u8, bytes: &[u8]) -> Result<DrawnOrder, Fault>
-    requires le_paths { 1 ≤ paths }
-    requires paths_bound { paths ≤ 64 }
+    requires some_path { 1 ≤ paths }
+    requires few_paths { paths ≤ 64 }
     ensures order { gives (order_at bytes.now) result ≡ order_in paths bytes.now }
     ensures within { IfOk result (λ o. o.end ≤ length bytes.now) }
 {

@@ -5,4 +5,4 @@ use Rattle.lots.proofs.lots.draw_lot.Goals as goal
 
 pub returns : goal.returns
 returns c =
-    record { lot = c.lot_in.ensures.lot; within = c.lot_in.ensures.within; coins = lot_coin; in_turn_lem = lots_in-turn; had = lots_had; follows = lot_follows (task_of c.args.task.now) }
+    record { lot = c.lot_in.ensures.lot; within = c.lot_in.ensures.within; coins = lot_coin; in_turn = lots_in-turn; had = lots_had; follows = lot_follows (task_of c.args.task.now) }

@@ -7,4 +7,4 @@ use Rattle.lots.proofs.questions.draw_question.Goals as goal
 pub returns : goal.returns
 returns c =
     let q = c.question_in.ensures in
-    record { question = q.question; within = q.within; in_turn_lem = questions_in-turn; had = questions_had; bytes-in_turn = bytes-in_turn; follows = question_follows (task_of c.args.task.now) }
+    record { question = q.question; within = q.within; in_turn = questions_in-turn; had = questions_had; bytes_in_turn = bytes-in_turn; follows = question_follows (task_of c.args.task.now) }
