@@ -1,5 +1,5 @@
 // The steps of a round.
-ghost use Rattle.std.specs.Prelude.{◌≡◌, ◌+◌, ◌*◌, ◌<◌, length, drop, vec_len};
+ghost use Rattle.std.specs.Prelude.{◌≡◌, ◌+◌, ◌*◌, ◌<◌, length, drop, vec_len, IfOk};
 ghost use Rattle.sha256.specs.Sha256.{sha256};
 ghost use Rattle.paths.specs.Order.{order_of};
 ghost use Rattle.tasks.specs.Fault.{number};
@@ -84,7 +84,7 @@ impl Ready {
     // The boxes of the round closed with a lot from the drawn bytes, or the end by fault 11.
     pub fn close(self, drawn: &[u8]) -> Result<Closed, Over>
         ensures state { leads closed_of result ≡ close sha256 (ready_of self) drawn.now }
-        ensures used { made result (λ c. drop c.used drawn.now ≡ left_over (task_of self.task) drawn.now) }
+        ensures used { IfOk result (λ c. drop c.used drawn.now ≡ left_over (task_of self.task) drawn.now) }
     {
         match draw_lot(&self.task, drawn) {
             Ok(lot) => {

@@ -1,5 +1,6 @@
-use Rattle.boxes.proofs.Same.{matches_same}
+use Rattle.std.proofs.Common.{◌∙◌}
+use Rattle.boxes.proofs.Same.{pointwise_same}
 use Rattle.judging.proofs.redrawing.same.Goals as goal
 
 pub returns : goal.returns
-returns c = matches_same _ _ _ c.eq.ensures
+returns c = c.eq.ensures ∙ pointwise_same c.args.one.now c.args.other.now
