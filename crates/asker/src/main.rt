@@ -57,7 +57,7 @@ fn ask(rt: &HostRuntime, options: Options) -> Result<Ending, Problem> {
     let rounds = rounds_for(rounds, enough_rounds(&task))?;
     let mut showing = Showing {
         rt,
-        line: Line::new(rt),
+        line: Line::new(rt)?,
         drawn: Drawn::open(rt, drawn)?,
         records: Records::create(rt, book, words)?,
         progress: Progress::new(rt, progress, rounds.count),

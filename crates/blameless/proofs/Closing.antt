@@ -30,8 +30,8 @@ module _ (t : Task) (law : WordLaw t) (n : ℕ) (few : n < 2 ^ 24) (w : List ℕ
   not_read f c (no_word f' e) r = never f _ (sym e ∙ r)
   not_read f c (not_awaited x e differs) r = let k : x ≡ end n c = cc in differs (c, k)
 
-  no_end : (f : ℕ) → Refused t (AnEnd n) w f → is_end n (heard w) ≡ false
-  no_end f q = or_from _ _ (other true) (other false)
+  no_end_lem : (f : ℕ) → Refused t (AnEnd n) w f → is_end n (heard w) ≡ false
+  no_end_lem f q = or_from _ _ (other true) (other false)
     where
       other : (c : Bool) → same_row w (said_bytes (end n c)) ≡ false
       other c =
@@ -67,7 +67,7 @@ module _ (H : List ℕ → List ℕ) (t : Task) (p : Plan) (r : ℕ) where
   closing law m n drawn ws line o k (no_ask n' d v h w f l q) = none n drawn ws line o k refl refl (λ d. refl)
   closing law m n drawn ws line o k (no_pair n' d v h i l q) = none n drawn ws line o k refl refl (λ d. refl)
   closing law m n drawn ws line o k (no_end n' d v h i w f l there q) =
-      none n drawn ws line o k (rw (no_end t law n (omega (arith, l.0)) w f q) refl) refl (λ d. refl)
+      none n drawn ws line o k (rw (no_end_lem t law n (omega (arith, l.0)) w f q) refl) refl (λ d. refl)
   closing law m n drawn ws line o k (end0 n' d v h i l there) =
       record { texts = _ ∷ []; found = _; honest = rw (is_end_lem n false) (round0 n drawn h i l.1 there); book = refl; tells = λ d. refl; few = omega (arith, l.0) }
   closing law m n drawn ws line o k (end1 n' d v h i rest o' l there from) =

@@ -47,7 +47,7 @@ pub struct Drawn {
 impl Drawn {
     pub fn open(rt: &HostRuntime, name: String) -> Result<Drawn, Problem> {
         Ok(Drawn {
-            file: BufReader::new(open(rt, name.clone()?)?),
+            file: BufReader::new(rt.alloc(), open(rt, name.clone()?)?).map_err(|_| Problem::Memory)?,
             name,
             taken: 0,
         })

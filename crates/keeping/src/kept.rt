@@ -18,7 +18,7 @@ impl Kept {
         };
         match File::create(rt, name.as_str()) {
             Ok(file) => Ok(Some(Kept {
-                file: BufWriter::new(file),
+                file: BufWriter::new(rt.alloc(), file).map_err(|_| Problem::Memory)?,
                 name,
             })),
             Err(error) => Err(Problem::Written(name, error)),

@@ -11,11 +11,11 @@ pub struct Line<'a> {
 }
 
 impl<'a> Line<'a> {
-    pub fn new(rt: &'a HostRuntime) -> Line<'a> {
-        Line {
+    pub fn new(rt: &'a HostRuntime) -> Result<Line<'a>, Problem> {
+        Ok(Line {
             rt,
-            input: BufReader::new(rt.stdin()),
-        }
+            input: BufReader::new(rt.alloc(), rt.stdin()).map_err(|_| Problem::Memory)?,
+        })
     }
 
     pub fn send(&self, word: &[u8]) -> Result<(), Problem> {

@@ -97,7 +97,7 @@ fn make_coins(
     mut asked: Source,
     mut coins: Source,
 ) -> Result<(), Problem> {
-    let mut out = BufWriter::new(rt.stdout());
+    let mut out = BufWriter::new(rt.alloc(), rt.stdout()).map_err(|_| Problem::Memory)?;
     let mut bytes = Vec::new(rt.alloc());
     for round in 0..=MOST_ROUNDS {
         let Some(question) = next_question(plans, round, &mut asked, &mut bytes)? else {

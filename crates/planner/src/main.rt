@@ -62,7 +62,7 @@ fn show(rt: &HostRuntime, options: Options) -> Result<Ending, Problem> {
     let rounds = rounds_for(rounds, default_rounds(task.pairs.len() as u16))?;
     let mut showing = Showing {
         rt,
-        line: Line::new(rt),
+        line: Line::new(rt)?,
         drawn: Drawn::open(rt, drawn)?,
         records: Records::create(rt, book, words)?,
         progress: Progress::new(rt, progress, rounds.count),

@@ -17,7 +17,7 @@ use Rattle.secrecy.proofs.ByLots.{by_lots-all}
 use Rattle.secrecy.proofs.Secret.{keeps_secret}
 use Rattle.secrecy.proofs.Aiming.{aimed_quotient}
 use Rattle.secrecy.proofs.Often.{as_often}
-use Rattle.secrecy.proofs.Orders.{Orders, aim_lots, orders_of, orders_of, reorder, lots-long, lots-below, lots-first, lots-aimed, turns_aimed, lots_are, lots_own}
+use Rattle.secrecy.proofs.Orders.{Orders, aim_lots, orders_of, orders_of_lem, reorder, lots-long, lots-below, lots-first, lots-aimed, turns_aimed, lots_are, lots_own}
 
 -- lots paired are lots with other orders
 reorder_paired : (t : Task) (p q : Plan) (is : List ℕ) (ls : List Lot) → reorder (orders_of (pair_lots t p q is ls)) ls ≡ pair_lots t p q is ls
@@ -48,7 +48,7 @@ module _ (H : List ℕ → List ℕ) (size : (x : List ℕ) → length (H x) ≡
     secret = keeps_secret H size t good p q fp fq f r
 
     orders : Orders t (orders_of (paired H f t p q r lots))
-    orders = orders_of t _ (secret.fitting lots (lots_are t few r bs b))
+    orders = orders_of_lem t _ (secret.fitting lots (lots_are t few r bs b))
 
     lots-paired : lots_in t r (paired_bytes H f t p q r bs) ≡ paired H f t p q r lots
     lots-paired = lots-aimed t r _ orders bs ∙ reorder_paired t p q _ lots

@@ -30,10 +30,10 @@ Orders t (o ∷ os) = IsOrder t.paths o × Orders t os
 abbrev pub orders_of : List Lot → List (List ℕ)
 orders_of ls = map (λ l. l.order) ls
 
-pub orders_of : (t : Task) (ls : List Lot) → Lots t ls → Orders t (orders_of ls)
+pub orders_of_lem : (t : Task) (ls : List Lot) → Lots t ls → Orders t (orders_of ls)
 unfolding Orders Lots
-orders_of t [] h = tt
-orders_of t (l ∷ ls) h = (h.0.order, orders_of t ls h.1)
+orders_of_lem t [] h = tt
+orders_of_lem t (l ∷ ls) h = (h.0.order, orders_of_lem t ls h.1)
 
 -- the front of a list, with something else behind it
 halves : (n : ℕ) (xs ys : List ℕ) → length ys ≡ length (drop n xs) → (take n (take n xs ++ ys) ≡ take n xs) × (drop n (take n xs ++ ys) ≡ ys)
