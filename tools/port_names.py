@@ -113,6 +113,8 @@ def main(argv):
         print("\n".join(found))
         return
     for path, lemmas in LEMMAS.items():
+        if not os.path.exists(path):
+            continue
         text = open(path, encoding="utf-8").read()
         for name in lemmas:
             text = re.sub(rf"(?<![\w'-]){name}(?![\w'-])", name + "_lem", text)

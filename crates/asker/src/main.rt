@@ -2,7 +2,7 @@
 mod showing;
 
 use arguments::{Arguments, Wrong};
-use command::{Ending, LoadedTask, Problem, finish, load_task};
+use command::{Ending, LoadedTask, Problem, conclude, load_task};
 use keeping::{Drawn, Line, Progress, Records, rounds_for, tell};
 use showing::Showing;
 use sides::start_asker;
@@ -82,5 +82,5 @@ fn run(rt: &HostRuntime) -> Result<Ending, Problem> {
 }
 
 fn main(rt: HostRuntime) -> Result<(), ()> {
-    finish(&rt, USAGE, run(&rt))
+    conclude(&rt, USAGE, run(&rt))
 }

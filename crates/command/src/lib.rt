@@ -4,5 +4,5 @@ mod problem;
 mod rounds;
 
 pub use files::{LoadedTask, load_fitting_plan, load_task, open};
-pub use problem::{Ending, Problem, finish};
+pub use problem::{Ending, Problem, conclude, finish};
 pub use rounds::read_rounds;

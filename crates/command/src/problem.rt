@@ -85,6 +85,17 @@ impl From<Fault> for Problem {
     }
 }
 
+// Tells a problem on standard error, with the usage where an argument is wrong, and hands on that there was one.
+pub fn finish(rt: &HostRuntime, usage: &str, res: Result<(), Problem>) -> Result<(), ()>
+    ensures { is_ok result ≡ is_ok res }
+{
+    let Err(problem) = res else {
+        return Ok(());
+    };
+    tell(rt, usage, problem);
+    Err(())
+}
+
 // How a program that had no problem ended: all is well, or what it told is not as one would have it.
 #[derive(Clone, Copy)]
 pub enum Ending {
@@ -92,17 +103,14 @@ pub enum Ending {
     Ill,
 }
 
-// Tells a problem on standard error, with the usage where an argument is wrong, and hands on whether all is well.
-pub fn finish(rt: &HostRuntime, usage: &str, res: Result<Ending, Problem>) -> Result<(), ()>
+// As `finish`, and hands on whether all is well.
+pub fn conclude(rt: &HostRuntime, usage: &str, res: Result<Ending, Problem>) -> Result<(), ()>
     ensures { is_ok result ≡ is_well res }
 {
     match res {
         Ok(Ending::Well) => Ok(()),
         Ok(Ending::Ill) => Err(()),
-        Err(problem) => {
-            tell(rt, usage, problem);
-            Err(())
-        }
+        Err(problem) => finish(rt, usage, Err(problem)),
     }
 }
 

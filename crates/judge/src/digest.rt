@@ -1,6 +1,23 @@
 // Digests as text: 64 hexadecimal digits.
 ghost use Rattle.std.specs.Prelude.{◌≡◌};
-ghost use Rattle.judge.specs.Digest.{digit_of};
+ghost use Rattle.judge.specs.Digest.{is_digest, is_digit, digit_of};
+
+fn is_digit(byte: u8) -> bool
+    ensures { result ≡ is_digit byte }
+{
+    matches!(byte, b'0'..=b'9' | b'A'..=b'F' | b'a'..=b'f')
+}
+
+fn is_digest(text: &[u8]) -> bool
+    ensures { result ≡ is_digest text.now }
+{
+    for digit in text {
+        if !is_digit(*digit) {
+            return false;
+        }
+    }
+    text.len() == 64
+}
 
 fn digit(byte: u8) -> Option<u8>
     ensures { result ≡ digit_of byte }
@@ -16,7 +33,7 @@ fn digit(byte: u8) -> Option<u8>
 // The digest that the text writes, if it writes one.
 pub fn digest_in(text: &[u8]) -> Option<[u8; 32]> {
     let mut digest = [0; 32];
-    if text.len() != 64 {
+    if !is_digest(text) || text.len() != 64 {
         return None;
     }
     for i in 0..32 {

@@ -4,7 +4,7 @@ mod hearing;
 mod telling;
 
 use arguments::{Arguments, Wrong};
-use command::{Ending, LoadedTask, Problem, finish, load_fitting_plan, load_task};
+use command::{Ending, LoadedTask, Problem, conclude, load_fitting_plan, load_task};
 use digest::digest_in;
 use drawing::default_rounds;
 use hearing::Hearing;
@@ -126,5 +126,5 @@ fn run(rt: &HostRuntime) -> Result<Ending, Problem> {
 }
 
 fn main(rt: HostRuntime) -> Result<(), ()> {
-    finish(&rt, USAGE, run(&rt))
+    conclude(&rt, USAGE, run(&rt))
 }

@@ -2,7 +2,7 @@
 mod source;
 
 use arguments::{Arguments, Wrong};
-use command::{Ending, LoadedTask, Problem, finish, load_fitting_plan, load_task};
+use command::{LoadedTask, Problem, finish, load_fitting_plan, load_task};
 use pairing::{Plans, ask_in};
 use source::Source;
 use std::env;
@@ -128,15 +128,14 @@ fn pair(rt: &HostRuntime, options: Options) -> Result<(), Problem> {
     make_coins(rt, &plans, asked, coins)
 }
 
-fn run(rt: &HostRuntime) -> Result<Ending, Problem> {
+fn run(rt: &HostRuntime) -> Result<(), Problem> {
     let mut arguments = Arguments::new(env::args(rt)?.collect(rt.alloc())?);
     if arguments.flag("--help") {
         rt.println(USAGE)?;
         rt.println(OPTIONS)?;
-        return Ok(Ending::Well);
+        return Ok(());
     }
-    pair(rt, read_options(arguments)?)?;
-    Ok(Ending::Well)
+    pair(rt, read_options(arguments)?)
 }
 
 fn main(rt: HostRuntime) -> Result<(), ()> {

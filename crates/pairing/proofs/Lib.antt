@@ -1,3 +1,5 @@
+pub mod Belows
 pub mod Tested
+pub mod Asked
 pub mod Promises
 pub mod Bytes

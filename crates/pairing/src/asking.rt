@@ -4,7 +4,7 @@ ghost use Rattle.tasks.specs.Model.{task_of};
 ghost use Rattle.tasks.specs.Reading.{gives};
 ghost use Rattle.pairing.specs.Asking.{read_word, read_ask};
 
-use fitting::pair_at;
+use super::pairs::pair_at;
 use tasks::{Fault, Task};
 
 // The number of the pair that these bytes ask for in this round, or the first fault.

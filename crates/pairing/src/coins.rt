@@ -5,8 +5,8 @@ ghost use Rattle.tasks.specs.Reading.{gives};
 ghost use Rattle.pairing.specs.Coins.{order_for, order_in, coin_for, left_by, Goes, Promised};
 ghost use Rattle.pairing.specs.Plans.{both_of};
 
+use super::pairs::pair_at;
 use super::plans::Plans;
-use fitting::pair_at;
 use paths::Order;
 use tasks::Fault;
 

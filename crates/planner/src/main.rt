@@ -2,7 +2,7 @@
 mod showing;
 
 use arguments::{Arguments, Wrong};
-use command::{Ending, LoadedTask, Problem, finish, load_fitting_plan, load_task};
+use command::{Ending, LoadedTask, Problem, conclude, load_fitting_plan, load_task};
 use drawing::default_rounds;
 use keeping::{Drawn, Line, Progress, Records, rounds_for, tell};
 use showing::Showing;
@@ -84,5 +84,5 @@ fn run(rt: &HostRuntime) -> Result<Ending, Problem> {
 }
 
 fn main(rt: HostRuntime) -> Result<(), ()> {
-    finish(&rt, USAGE, run(&rt))
+    conclude(&rt, USAGE, run(&rt))
 }
