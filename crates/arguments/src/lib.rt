@@ -1,4 +1,6 @@
 // The words of the command line, taken one option after the other.
+#![tactic(auto)]
+
 ghost use Rattle.std.specs.Prelude.{◌≡◌, ◌≤◌, drop, vec_len};
 ghost use Rattle.std.specs.Result.{result_ok};
 ghost use Rattle.arguments.specs.Words.{place_of, Taken, Struck, ending};

@@ -1,4 +1,6 @@
 // The asker: in each round it asks the planner for a pair, and sees that the two trains have different paths.
+#![tactic(auto)]
+
 mod showing;
 
 use arguments::{Arguments, Wrong};

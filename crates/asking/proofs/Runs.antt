@@ -12,7 +12,7 @@ use Rattle.boxes.specs.Box.{Opening}
 use Rattle.book.specs.Chain.{after, next_digest}
 use Rattle.book.specs.Lengths.{round_text}
 use Rattle.lots.specs.Lots.{Had, question_in}
-use Rattle.words.specs.Said.{task, boxes, ask, opened, end}
+use Rattle.words.specs.Said.{boxes, ask, opened, end}
 use Rattle.words.specs.Reading.{read_word}
 use Rattle.words.specs.Writing.{said_bytes, is_got}
 use Rattle.round.specs.Over.{Over, content, fault, task_fault, Leads, on, out}

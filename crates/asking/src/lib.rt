@@ -1,4 +1,6 @@
 // The asker's side of a showing: its state goes through methods by value, from the start to the end. After an end or a refusal there is no state that sends.
+#![tactic(auto)]
+
 mod asked;
 mod awaiting;
 mod drawn;

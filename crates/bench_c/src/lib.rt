@@ -1,4 +1,6 @@
 // The functions that the benchmark calls from C.
+#![tactic(auto)]
+
 ghost use Rattle.std.specs.Prelude.{◌≡◌, ℕ, ◌*◌, ◌<◌, [], ◌++◌, length, drop, if◌then◌else◌, slice_index_or};
 ghost use Rattle.sha256.specs.Sha256.{sha256};
 ghost use Rattle.boxes.specs.Box.{boxes_of, closable};

@@ -1,4 +1,6 @@
 // An honest planner can't be blamed: what the judge tells of the planner's runs, whatever the asker does. The definitions are in specs/, the proofs in proofs/.
+#![tactic(auto)]
+
 ghost use Rattle.std.specs.Prelude.{ℕ, List};
 ghost use Rattle.sha256.specs.Sha256.{sha256};
 ghost use Rattle.book.specs.Chain.{Sized};

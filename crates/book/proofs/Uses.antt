@@ -1,5 +1,5 @@
 -- The lengths of texts tell their uses. Assumes nothing.
-use Rattle.std.proofs.Common.{◌≡◌, ℕ, ◌≤◌, ◌⊎◌, List, ◌++◌, length, sym, refl, ◌∙◌, inl, inr, arith}
+use Rattle.std.proofs.Common.{◌≡◌, ℕ, ◌≤◌, List, ◌++◌, length, sym, refl, ◌∙◌, inl, inr, arith}
 use Rattle.std.proofs.lemmas.List.{length-append}
 use Rattle.book.specs.Lengths.{Use, for_box, for_task, for_whole, for_short, bytes_for, TaskText, Apart, RoundText, RoundLong}
 

@@ -1,4 +1,6 @@
 // The book of a showing: a digest of the task, and after each round a digest of the one before it and of the round's words.
+#![tactic(auto)]
+
 ghost use Rattle.std.specs.Prelude.{◌≡◌, ℕ, List, [], ◌∷◌, ◌++◌};
 ghost use Rattle.sha256.specs.Sha256.{sha256};
 ghost use Rattle.sha256.specs.Stream.{Holds};

@@ -1,9 +1,9 @@
 -- Two openings of one box that are not the same give two texts of one digest. Assumes nothing.
-use Rattle.std.proofs.Common.{◌≡◌, ℕ, ◌^◌, ◌<◌, Bool, true, false, not, ◌&&◌, eqb, ◌⊎◌, List, Some, None, sym, refl, ap, ◌∙◌, inl, inr}
+use Rattle.std.proofs.Common.{◌≡◌, ℕ, ◌^◌, ◌<◌, true, false, not, ◌&&◌, eqb, ◌⊎◌, List, Some, None, sym, refl, ap, ◌∙◌, inl, inr}
 use Rattle.std.proofs.lemmas.Bool.{and_from, and_parts, both_ways, cases_Bool, eq-eqb, eqb-true, not_from_false, not-true}
 use Rattle.paths.specs.Count.{same_row}
 use Rattle.boxes.specs.Box.{Opening, text_of, opens_box}
-use Rattle.boxes.specs.Binding.{TwoTexts, collides, same_opening, texts_of, opened_twice, collision_of, Binds}
+use Rattle.boxes.specs.Binding.{collides, same_opening, texts_of, opened_twice, collision_of, Binds}
 use Rattle.boxes.proofs.Bytes.{bytes_same}
 use Rattle.boxes.proofs.Same.{same_decides, same-itself}
 use Rattle.boxes.proofs.Texts.{text-parts}

@@ -1,5 +1,5 @@
 -- Numbers as bytes: a number that fits is got back from its bytes, so no two have the same. Assumes nothing.
-use Rattle.std.proofs.Common.{◌≡◌, ℕ, zero, suc, ◌+◌, ◌*◌, ◌/◌, ◌%◌, ◌^◌, ◌<◌, [], ◌∷◌, sym, refl, ap, ◌∙◌, mod-eq_of_lt, zero-add, zero-mul, div-one, arith, pow-add}
+use Rattle.std.proofs.Common.{◌≡◌, ℕ, zero, suc, ◌+◌, ◌*◌, ◌/◌, ◌%◌, ◌^◌, ◌<◌, [], ◌∷◌, sym, ap, ◌∙◌, mod-eq_of_lt, zero-add, zero-mul, div-one, arith, pow-add}
 use lib.Pow.{mod-pow-add}
 use Rattle.std.specs.Int.Digits.{number_from_digits, number_from_digits_after}
 use Rattle.sha256.specs.Sha256.{bytes}

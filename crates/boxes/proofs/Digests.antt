@@ -1,5 +1,5 @@
 -- A digest has 32 bytes. Assumes nothing.
-use Rattle.std.proofs.Common.{◌≡◌, ℕ, List, length, arith}
+use Rattle.std.proofs.Common.{◌≡◌, ℕ, List, length}
 use Rattle.std.proofs.lemmas.List.{length-append}
 use Rattle.sha256.specs.Sha256.{sha256}
 use Rattle.sha256.proofs.Bytes.{length-bytes}

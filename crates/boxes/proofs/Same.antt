@@ -1,5 +1,5 @@
 -- Rows compared. Assumes nothing.
-use Rattle.std.proofs.Common.{◌≡◌, ℕ, Bool, true, List, [], ◌∷◌, ◌&&◌, Decides, eqb, refl, ap, rules}
+use Rattle.std.proofs.Common.{◌≡◌, ℕ, true, List, [], ◌∷◌, ◌&&◌, Decides, eqb, refl, ap, rules}
 use lib.Pointwise.{pointwise}
 use Rattle.std.proofs.lemmas.Slice.Eq.{compares_Decides}
 use Rattle.paths.specs.Count.{same_row}

@@ -1,4 +1,6 @@
 // Closed boxes, each a commitment to the number of a train in a round; their openings; and what two openings of one box give away.
+#![tactic(auto)]
+
 mod all;
 mod binding;
 mod closing;

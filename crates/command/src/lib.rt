@@ -1,4 +1,6 @@
 // What the four programs share: loading of files, the number of rounds, and how a problem is told.
+#![tactic(auto)]
+
 mod files;
 mod problem;
 mod rounds;

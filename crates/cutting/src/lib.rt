@@ -1,4 +1,6 @@
 // The words of a showing cut into rounds, one word after the other.
+#![tactic(auto)]
+
 mod hearing;
 mod phases;
 

@@ -1,4 +1,6 @@
 // Damaged words and good ones, each read as it is and from a stream that gives a byte at a time: a line for each, refusals too.
+#![tactic(auto)]
+
 mod cases;
 mod drip;
 mod told;

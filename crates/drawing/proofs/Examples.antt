@@ -1,7 +1,7 @@
 -- Small examples that compute, so that the definitions say what they seem to. Assumes nothing.
 use Rattle.std.proofs.Common.{◌≡◌, ◌^◌, [], ◌∷◌, refl}
 use Rattle.paths.specs.Cheat.{up_to, before, asks, count}
-use Rattle.drawing.specs.Drawing.{drew, short, draw, aim, passed, exchanges, order_of, row_of, order_moduli, values_of}
+use Rattle.drawing.specs.Drawing.{drew, short, draw, aim, exchanges, order_of, row_of, order_moduli, values_of}
 use Rattle.paths.specs.Count.{same_row}
 use Rattle.drawing.specs.Uniform.{how_many, ways}
 

@@ -1,6 +1,6 @@
 -- What is promised of drawing: no number, order, question or coin is favoured. Each promise is a type, and a term of it in proofs/ its proof.
 -- Assumes nothing.
-use Rattle.std.specs.Prelude.{◌≡◌, ℕ, zero, suc, ◌+◌, ◌-◌, ◌*◌, ◌/◌, ◌%◌, ◌^◌, ◌<◌, ◌≤◌, Bool, true, false, cond, ◌&&◌, T, List, [], ◌∷◌, ◌++◌, length, ◌==◌, nat_lt}
+use Rattle.std.specs.Prelude.{◌≡◌, ℕ, zero, suc, ◌+◌, ◌*◌, ◌/◌, ◌%◌, ◌^◌, ◌<◌, ◌≤◌, Bool, true, false, cond, ◌&&◌, T, List, [], ◌∷◌, ◌++◌, length, ◌==◌, nat_lt}
 use Rattle.paths.specs.Plan.{Task, all_below, different}
 use Rattle.paths.specs.Show.{Coin}
 use Rattle.paths.specs.Promise.{Coins}

@@ -1,4 +1,6 @@
 // How many rounds are enough, and that numbers, orders, questions and coins are drawn without favour: the definitions are in specs/, the proofs in proofs/.
+#![tactic(auto)]
+
 ghost use Rattle.std.specs.Prelude.{◌≡◌, ◌-◌, ◌*◌, ◌^◌, ◌<◌, ◌≤◌};
 ghost use Rattle.drawing.specs.Enough.{Halves, Enough};
 ghost use Rattle.drawing.specs.Uniform.{Remainders, Ways, Rows, Shares, InTurn, Bytes, Aims, AimsInTurn, Orders, Showings, EvenOrders, EvenQuestions, QuestionShares, EvenShowings};

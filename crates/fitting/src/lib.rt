@@ -1,4 +1,6 @@
 // Plans tested whether they fit a task, and the pair that a question names.
+#![tactic(auto)]
+
 mod pairs;
 mod testing;
 

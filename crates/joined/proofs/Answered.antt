@@ -12,16 +12,16 @@ use Rattle.boxes.specs.Box.{boxes_of}
 use Rattle.lots.specs.Lots.{Had, Lot, lot_in}
 use Rattle.lots.specs.Laws.{LotHad}
 use Rattle.lots.proofs.Chances.{below-drop}
-use Rattle.words.specs.Said.{Said, boxes, ask}
+use Rattle.words.specs.Said.{ask}
 use Rattle.words.specs.Reading.{read_word}
 use Rattle.words.specs.Writing.{said_bytes}
 use Rattle.round.specs.Round.{held, boxes_for, opened_for}
 use Rattle.round.specs.Line.{Event, sent, heard, Other, Ran}
-use Rattle.round.specs.Over.{Over, on, out}
-use Rattle.planning.specs.Planning.{Ready, Closed, Opened, turn, on_ask, ask_in, end_in, answer, hear, settle, left_over}
+use Rattle.round.specs.Over.{on}
+use Rattle.planning.specs.Planning.{Ready, Closed, Opened, turn, on_ask, ask_in, end_in, answer, hear, settle}
 use Rattle.planning.specs.Run.{and_on}
-use Rattle.joined.specs.Side.{Side, says, hears, ends, against}
-use Rattle.joined.specs.Sides.{goes, plans, planner}
+use Rattle.joined.specs.Side.{says, hears, against}
+use Rattle.joined.specs.Sides.{goes, plans}
 use Rattle.joined.specs.Answered.{Accepted, AnsweredHere, Answered, Completes}
 use Rattle.joined.proofs.Sides.{sides_run, plans-out}
 use Rattle.joined.proofs.Written.{never, ask_had, asked_for, lot_had, task-reads, boxes-reads, opened-reads, accepted}

@@ -1,7 +1,7 @@
 -- The worked cases hold. Assumes nothing.
-use Rattle.std.proofs.Common.{◌≡◌, ℕ, zero, suc, ◌-◌, ◌^◌, ◌<◌, ◌≤◌, true, false, T, ◌≢◌, ◌⊎◌, List, [], ◌∷◌, length, drop, sym, refl, ap, ◌∙◌, inl, inr, pow-suc, arith, lit<, length-drop, length-take}
+use Rattle.std.proofs.Common.{◌≡◌, ℕ, zero, suc, ◌<◌, ◌≤◌, true, false, ◌≢◌, ◌⊎◌, List, [], ◌∷◌, length, refl, ap, ◌∙◌, inl, inr, pow-suc, arith, lit<, length-drop, length-take}
 use Rattle.std.proofs.lemmas.Bool.{eq-eqb, and_from, cases_Bool}
-use Rattle.paths.specs.Plan.{Plan, fits, pairs_in, all_below, apart}
+use Rattle.paths.specs.Plan.{pairs_in}
 use Rattle.paths.specs.Cheat.{Cheat, lucky, passes, up_to, before, asks, count}
 use Rattle.paths.specs.Misses.{trio}
 use Rattle.paths.proofs.Rows.{below_at, apart-at}
@@ -19,7 +19,7 @@ use Rattle.words.specs.Writing.{said_bytes}
 use Rattle.words.proofs.Laws.{word_law}
 use Rattle.round.specs.Round.{part_of, opening_for, opens_in, test_opened}
 use Rattle.asking.specs.Asking.{is_opened_of, test, settle}
-use Rattle.joined.specs.Cases.{AllHold, cases, three, two, NoPlan, Cheats, lot_of, asked, altered, answer, NotOpened, AnotherChance}
+use Rattle.joined.specs.Cases.{AllHold, cases, three, two, NoPlan, Cheats, lot_of, asked, altered, answer, AnotherChance}
 
 none-two : NoPlan two
 none-two p fp =

@@ -1,5 +1,5 @@
 -- Both sides joined by a faithful line. Assumes nothing.
-use Rattle.std.proofs.Common.{◌≡◌, ℕ, zero, suc, ◌+◌, ◌^◌, ◌<◌, ◌≤◌, true, false, T, List, [], ◌∷◌, ◌++◌, map, reverse, length, drop, sym, refl, ap, ◌∙◌, subst, zero-add, arith}
+use Rattle.std.proofs.Common.{◌≡◌, ℕ, zero, suc, ◌+◌, ◌^◌, ◌<◌, ◌≤◌, true, T, List, [], ◌∷◌, ◌++◌, reverse, length, drop, sym, refl, ap, ◌∙◌, zero-add, arith}
 use mathlib.Core.List.{reverse_aux}
 use Rattle.std.proofs.lemmas.List.{reverse-reverse}
 use Rattle.std.proofs.lemmas.Bool.{lt-ltb, le-ltb, eq-eqb}
@@ -12,7 +12,7 @@ use Rattle.tasks.specs.Writing.{task_bytes}
 use Rattle.tasks.proofs.TaskLaws.{guarantees}
 use Rattle.book.specs.Chain.{Sized, after}
 use Rattle.boxes.proofs.Same.{same-itself}
-use Rattle.lots.specs.Lots.{Had, Lot, drawn, had_by, coin_of_lot, each_as, lot_in, question_in, in_turn}
+use Rattle.lots.specs.Lots.{Had, Lot, drawn, had_by, each_as, lot_in, question_in, in_turn}
 use Rattle.lots.specs.Laws.{LotHad}
 use Rattle.lots.proofs.Chances.{below-drop}
 use Rattle.lots.proofs.Coins.{lot_coin, questions_had}
@@ -20,7 +20,7 @@ use Rattle.words.specs.Said.{task, boxes, ask, end}
 use Rattle.words.specs.Reading.{read_word}
 use Rattle.words.specs.Writing.{said_bytes}
 use Rattle.round.specs.Line.{Event, sent, heard, Ran}
-use Rattle.round.specs.Over.{Over, content, Leads, on, out}
+use Rattle.round.specs.Over.{Over, content, on}
 use Rattle.round.specs.Round.{test_opened}
 use Rattle.planning.specs.Planning as planning
 use Rattle.planning.specs.Run.{and_on}
@@ -28,7 +28,7 @@ use Rattle.planning.specs.Conduct.{boxes_word, opened_word, text}
 use Rattle.asking.specs.Asking as asking
 use Rattle.asking.specs.Asking.{is_opened_of}
 use Rattle.asking.proofs.Refusals.{too_few}
-use Rattle.joined.specs.Side.{Side, says, hears, ends, as_other, joined, given, exchange, exchanged}
+use Rattle.joined.specs.Side.{Side, says, hears, as_other, joined, given, exchanged}
 use Rattle.joined.specs.Sides.{goes, plans, planner, asks, asker}
 use Rattle.joined.specs.Joined.{round_on, Goes, all_rounds, planner_lacks, asker_lacks, both_lack, content_round, Together, Joins}
 use Rattle.joined.proofs.Sides.{joined_is, sides_run}

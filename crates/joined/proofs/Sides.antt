@@ -1,8 +1,7 @@
 -- Sides and their runs. Assumes nothing.
 use Rattle.std.proofs.Common.{◌≡◌, ℕ, zero, suc, List, [], ◌∷◌, sym, refl, ap, ◌∙◌, subst}
-use Rattle.paths.specs.Plan.{Task, Plan}
 use Rattle.lots.specs.Lots.{question_in}
-use Rattle.round.specs.Line.{Event, sent, heard, Other, Ran}
+use Rattle.round.specs.Line.{Event, sent, heard, Other}
 use Rattle.round.specs.Over.{Over, Leads, on, out}
 use Rattle.planning.specs.Planning as planning
 use Rattle.planning.specs.Run as planning-run

@@ -1,9 +1,8 @@
 -- The words of a round that a plan and a lot give are read as they were written, and the Opened is accepted. Assumes nothing.
-use Rattle.std.proofs.Common.{◌≡◌, ℕ, ◌*◌, ◌^◌, ◌<◌, ◌≤◌, Bool, true, false, cond, T, eqb, ltb, List, length, sym, refl, ap, ◌∙◌, arith, length-drop, length-take}
+use Rattle.std.proofs.Common.{◌≡◌, ℕ, ◌*◌, ◌^◌, ◌<◌, ◌≤◌, Bool, true, T, eqb, ltb, List, length, refl, ap, ◌∙◌, arith, length-drop, length-take}
 use Rattle.std.proofs.lemmas.List.{length-map}
 use Rattle.std.proofs.lemmas.Bool.{lt-ltb, eq-eqb, eqb-true, ltb-true, and_parts, and_from}
 use Rattle.paths.specs.Plan.{Task, Plan, Good, at, fits, all_below}
-use Rattle.paths.specs.Show.{pair_at}
 use Rattle.paths.proofs.Rows.{pairs-at}
 use Rattle.tasks.specs.Reading.{Got, got, refused, and_then}
 use Rattle.tasks.specs.Task.{sound, lowest}
@@ -18,7 +17,7 @@ use Rattle.lots.specs.Laws.{LotHad}
 use Rattle.lots.proofs.Coins.{lots_had}
 use Rattle.words.specs.Said.{Said, task, plan, boxes, ask, opened, end}
 use Rattle.words.specs.Reading.{read_word}
-use Rattle.words.specs.Writing.{is_got, said_bytes, WordLaw, is_round, is_opening, is_said}
+use Rattle.words.specs.Writing.{is_got, said_bytes, WordLaw, is_round, is_opening}
 use Rattle.words.proofs.Laws.{word_law}
 use Rattle.round.specs.Round.{held, part_of, boxes_for, opening_for, opened_for, test_opened}
 use Rattle.round.proofs.Rounds.{rising_in}

@@ -1,4 +1,6 @@
 // Planner and asker joined by a faithful line, completeness against any asker, and the worked cases: the definitions are in specs/, the proofs in proofs/.
+#![tactic(auto)]
+
 ghost use Rattle.std.specs.Prelude.{◌≡◌, ℕ, List};
 ghost use Rattle.joined.specs.Answered.{Completes};
 ghost use Rattle.joined.specs.Cases.{AllHold, cases};

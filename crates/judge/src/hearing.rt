@@ -19,7 +19,9 @@ impl Hearing {
     pub fn open(rt: &HostRuntime, name: String) -> Result<Hearing, Problem> {
         Ok(Hearing {
             heap: rt.alloc(),
-            file: BufReader::new(rt.alloc(), open(rt, name.clone()?)?).map_err(|_| Problem::Memory)?,
+            file: BufReader::new(rt.alloc(), open(rt, name.clone()?)?).map_err(
+                |_| Problem::Memory,
+            )?,
             name,
         })
     }

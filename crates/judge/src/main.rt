@@ -1,4 +1,6 @@
 // The judge: from the words of a showing and its last digest it finds whether the showing was content.
+#![tactic(auto)]
+
 mod digest;
 mod hearing;
 mod telling;

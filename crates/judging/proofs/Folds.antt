@@ -10,7 +10,7 @@ use Rattle.lots.specs.Lots.{Had, Lot, lot_in}
 use Rattle.judging.specs.Verdict.{Content, content_all, not_content, content_but, Redrawn, not_handed, agrees, drawn_out, differs, Verdict, bad_words, other_words, judged, first_of, first_drawn}
 use Rattle.cutting.specs.Cutting.{Round, text_of, Awaits, for_boxes, for_ask, for_answer, for_end, for_nothing, Heard, waits, closes, hear, behind, Cut, cut_into, fault_in, also_round, cut_short, cut_on, cut_from, cut}
 use Rattle.judging.specs.Judging.{content_from, redrawn_in, compared_in, differs_at, other_train, redrawn_from, nothing_yet, left_over, judge}
-use Rattle.judging.specs.Steps.{Judge, told, begin, waiting, closing, went, ended, finish, onwards, and_on, tells}
+use Rattle.judging.specs.Steps.{Judge, begin, waiting, closing, went, ended, finish, onwards, and_on, tells}
 use Rattle.judging.specs.Laws.{Folds}
 
 -- The first finding of three, however they are taken together

@@ -1,5 +1,4 @@
 -- When a showing ended well. Assumes nothing.
-use Rattle.std.specs.Prelude.{ℕ}
 use Rattle.command.specs.declared.problem.Ending.{Ending}
 use Rattle.command.specs.declared.problem.Ending.TheVariants.{Well, Ill}
 use Rattle.round.specs.Over.{Outcome, content, not_content, fault, task_fault}

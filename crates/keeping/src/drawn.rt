@@ -47,7 +47,9 @@ pub struct Drawn {
 impl Drawn {
     pub fn open(rt: &HostRuntime, name: String) -> Result<Drawn, Problem> {
         Ok(Drawn {
-            file: BufReader::new(rt.alloc(), open(rt, name.clone()?)?).map_err(|_| Problem::Memory)?,
+            file: BufReader::new(rt.alloc(), open(rt, name.clone()?)?).map_err(
+                |_| Problem::Memory,
+            )?,
             name,
             taken: 0,
         })

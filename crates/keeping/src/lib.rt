@@ -1,4 +1,6 @@
 // What the programs of both sides share: the line, the drawn bytes, the number of rounds, the book and the transcript, the progress, and how the end is told.
+#![tactic(auto)]
+
 mod drawn;
 mod ending;
 mod hex;

@@ -1,4 +1,6 @@
 // Words read from a stream, one at a time.
+#![tactic(auto)]
+
 mod error;
 mod reading;
 #[cfg(test)]

@@ -1,4 +1,6 @@
 // Lots and questions drawn from bytes, as the promises of uniformity say.
+#![tactic(auto)]
+
 mod lots;
 mod numbers;
 mod orders;

@@ -1,4 +1,6 @@
 // The pair: from the coins of one plan it makes the coins of another plan that show the same, and prints them.
+#![tactic(auto)]
+
 mod source;
 
 use arguments::{Arguments, Wrong};

@@ -12,7 +12,9 @@ pub struct Source {
 
 impl Source {
     pub fn open(rt: &HostRuntime, name: String) -> Result<Source, Problem> {
-        let file = BufReader::new(rt.alloc(), open(rt, name.clone()?)?).map_err(|_| Problem::Memory)?;
+        let file = BufReader::new(rt.alloc(), open(rt, name.clone()?)?).map_err(
+            |_| Problem::Memory,
+        )?;
         Ok(Source { file, name })
     }
 

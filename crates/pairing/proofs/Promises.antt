@@ -1,13 +1,12 @@
 -- What each task of the code guarantees, and so what is promised of two plans that fit it.
-use Rattle.std.proofs.Common.{◌≡◌, ℕ, ◌<◌, ◌≤◌, Bool, true, false, cond, ◌&&◌, T, eqb, ltb, List, [], ◌∷◌, map, length, Some, None, vec_items, sym, refl, ap, ◌∙◌, arith}
+use Rattle.std.proofs.Common.{◌≡◌, ℕ, ◌<◌, Bool, true, false, cond, ◌&&◌, T, ltb, List, [], ◌∷◌, length, Some, None, vec_items, sym, refl, ap, ◌∙◌, arith}
 use lib.Ieee.Fits.{and_i}
 use lib.ListN.{length-map}
 use Rattle.std.proofs.lemmas.Bool.{and_parts, and_from, lt-ltb, ltb-true, ne_eqb, eq-eqb}
 use Rattle.std.specs.Bool.{then_some}
-use Rattle.paths.specs.Plan.{Pair, Task, Plan, Good, pairs_in, fits, at}
+use Rattle.paths.specs.Plan.{Pair, Task, Plan, Good, pairs_in, fits}
 use Rattle.paths.specs.Show.{pair_at}
-use Rattle.paths.specs.Cheat.{up_to}
-use Rattle.paths.specs.Partners.{are_two, paired_by, paired}
+use Rattle.paths.specs.Partners.{are_two, paired}
 use Rattle.paths.specs.declared.partners.Partners.{Partners}
 use Rattle.paths.proofs.Paired.{pair-paths}
 use Rattle.paths.proofs.Alike.{pairs-alike}

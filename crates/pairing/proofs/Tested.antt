@@ -1,5 +1,5 @@
 -- What a test of a plan tells, and the answer where one of two plans is refused.
-use Rattle.std.proofs.Common.{◌≡◌, ℕ, Bool, true, false, cond, ◌&&◌, eqb, length, Err, Result, sym, refl, ap, subst, arith}
+use Rattle.std.proofs.Common.{◌≡◌, ℕ, Bool, true, false, cond, ◌&&◌, eqb, length, Err, sym, refl, ap, subst, arith}
 use Rattle.paths.specs.Plan.{Task, Plan, all_below, apart, fits}
 use Rattle.tasks.specs.declared.fault.Fault.{Fault}
 use Rattle.tasks.specs.declared.fault.Fault.TheVariants as faults

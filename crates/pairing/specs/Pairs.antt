@@ -4,7 +4,7 @@ use Rattle.paths.specs.Plan.{Pair, Task, Plan, at}
 use Rattle.paths.specs.Show.{pair_at}
 use Rattle.paths.specs.declared.partners.TwoPaths.{TwoPaths}
 use Rattle.paths.specs.declared.partners.Partners.{Partners}
-use Rattle.tasks.specs.Reading.{Got, got, refused, and_then}
+use Rattle.tasks.specs.Reading.{Got, got, refused}
 
 -- fault 7 where there is no such pair
 abbrev pub asked_pair : Task → ℕ → Got Pair

@@ -1,4 +1,6 @@
 // Two plans that fit a task, and the coins of the second that show the same as coins of the first.
+#![tactic(auto)]
+
 mod asking;
 mod coins;
 mod fitting;

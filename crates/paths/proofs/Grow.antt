@@ -1,6 +1,6 @@
 -- Each round adds one to what is shown, and what was shown stays.
 -- Assumes nothing.
-use Rattle.std.proofs.Common.{◌≡◌, ℕ, suc, ◌+◌, List, [], ◌∷◌, ◌++◌, length, refl, ◌∙◌, add_comm, arith}
+use Rattle.std.proofs.Common.{◌≡◌, ◌+◌, List, [], ◌∷◌, ◌++◌, length, refl, arith}
 use Rattle.paths.specs.Plan.{Task, Plan}
 use Rattle.paths.specs.Show.{Coin, Asker, Shown, rounds, round, within}
 

@@ -1,5 +1,5 @@
 -- The order in which each path has its partner's number: it is an order of as many paths. Assumes nothing.
-use Rattle.std.proofs.Common.{◌≡◌, ℕ, ◌+◌, ◌<◌, ◌≤◌, Bool, true, false, not, ◌&&◌, T, eqb, ltb, ◌≢◌, List, [], ◌∷◌, ◌++◌, map, length, take, set, Some, sym, refl, ap, ◌∙◌, add-one, arith}
+use Rattle.std.proofs.Common.{◌≡◌, ℕ, ◌+◌, ◌<◌, ◌≤◌, Bool, true, false, ◌&&◌, T, ltb, ◌≢◌, List, [], ◌∷◌, ◌++◌, map, length, take, set, Some, sym, refl, ap, ◌∙◌, add-one, arith}
 use Rattle.std.proofs.lemmas.List.{map_push, take_more_set}
 use Rattle.std.proofs.lemmas.Bool.{and_parts, and_from, ltb-true, lt-ltb, not-true, ne_eqb, eqb-false}
 use Rattle.paths.specs.Plan.{Task, all_below, apart, pairs_in, different, fits}

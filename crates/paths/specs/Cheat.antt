@@ -1,8 +1,7 @@
 -- Cheating planners, who put into the boxes what they like, by all that was shown so far; and in how many ways to ask that goes well. Assumes nothing.
-use Rattle.std.specs.Prelude.{◌≡◌, ℕ, zero, suc, ◌+◌, ◌*◌, ◌/◌, ◌%◌, ◌^◌, ◌<◌, ◌≤◌, Bool, true, false, cond, not, ◌&&◌, ◌||◌, T, eqb, ltb, leb, List, [], ◌∷◌, ◌++◌, length, get_or}
-use mathlib.Core.List.{Memᴰ}
-use Rattle.paths.specs.Plan.{Task, Pair, at}
-use Rattle.paths.specs.Show.{Box, Shown, pair_at, content}
+use Rattle.std.specs.Prelude.{ℕ, zero, suc, ◌+◌, Bool, true, cond, ◌&&◌, List, [], ◌∷◌, ◌++◌, length}
+use Rattle.paths.specs.Plan.{Task, at}
+use Rattle.paths.specs.Show.{Shown, pair_at, content}
 
 -- what is put into the boxes: one number for each train
 abbrev pub Cheat : Type 0

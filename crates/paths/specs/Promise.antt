@@ -1,9 +1,9 @@
 -- What is promised of rounds with boxes as terms, whole and in parts. Each promise is a type, and a term of it in proofs/ its proof. Assumes nothing.
-use Rattle.std.specs.Prelude.{◌≡◌, ℕ, zero, suc, ◌+◌, ◌-◌, ◌*◌, ◌/◌, ◌%◌, ◌^◌, ◌<◌, ◌≤◌, Bool, true, false, cond, not, ◌&&◌, ◌||◌, T, eqb, ltb, leb, List, [], ◌∷◌, ◌++◌, length, get_or}
+use Rattle.std.specs.Prelude.{◌≡◌, ℕ, ◌-◌, ◌^◌, ◌<◌, ◌≤◌, T, List, length}
 use mathlib.Core.List.{Memᴰ}
 use Rattle.paths.specs.Plan.{Task, Good, Plan, fits, different, all_below}
 use Rattle.paths.specs.Show.{Coin, Asker, Shown, view, all_content, content}
-use Rattle.paths.specs.Cheat.{Cheat, lucky, passes, shown_by}
+use Rattle.paths.specs.Cheat.{Cheat, lucky, shown_by}
 
 -- coins that serve r rounds
 abbrev pub IsCoin : Task → Coin → Type 0

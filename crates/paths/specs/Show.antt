@@ -1,6 +1,5 @@
 -- Rounds with boxes as terms: the planner shows that its plan fits, and the asker sees two open boxes a round. Assumes nothing.
-use Rattle.std.specs.Prelude.{◌≡◌, ℕ, zero, suc, ◌+◌, ◌*◌, ◌/◌, ◌%◌, ◌<◌, ◌≤◌, Bool, true, false, cond, not, ◌&&◌, ◌||◌, T, List, [], ◌∷◌, ◌++◌, length, ◌==◌, nat_lt, slice_index_or}
-use mathlib.Core.List.{Memᴰ}
+use Rattle.std.specs.Prelude.{ℕ, Bool, true, cond, not, ◌&&◌, List, [], ◌∷◌, ◌++◌, length, ◌==◌, nat_lt, slice_index_or}
 use Rattle.paths.specs.Plan.{Task, Pair, Plan, at}
 
 -- what is drawn for a round: an order of the paths, and for each train's box a chance (32 bytes, as a number)

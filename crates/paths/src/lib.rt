@@ -1,5 +1,7 @@
 // Tasks and plans, rounds with boxes as terms, cheating planners, and what is promised of them: the definitions are in specs/, the proofs in proofs/. And orders
 // of paths, with their pairing.
+#![tactic(auto)]
+
 ghost use Rattle.std.specs.Prelude.{◌≡◌};
 ghost use Rattle.paths.specs.Promise.{Main, Passes, Reads, Caught};
 ghost use Rattle.paths.specs.Paired.{PairsCoin, PairsEach, PairsBack, PairsAlike};

@@ -1,4 +1,6 @@
 // The planner: it has a plan that fits the task, and shows that to an asker in rounds.
+#![tactic(auto)]
+
 mod showing;
 
 use arguments::{Arguments, Wrong};

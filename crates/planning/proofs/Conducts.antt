@@ -11,7 +11,7 @@ use Rattle.lots.specs.Lots.{Had, Lot, had_by, order_in, chances_in, lot_in}
 use Rattle.words.specs.Said.{ask, end}
 use Rattle.words.specs.Writing.{said_bytes, WordLaw}
 use Rattle.words.proofs.Laws.{word_law}
-use Rattle.round.specs.Over.{Over, on, out}
+use Rattle.round.specs.Over.{Over, out}
 use Rattle.planning.specs.Planning.{Ready, Closed, Opened, turn, left_over, answer, hear, settle}
 use Rattle.round.specs.Line.{Event, sent, heard, Other, SaysBytes, Ran}
 use Rattle.planning.specs.Run.{Gone, and_on, sending, one_round, run}

@@ -7,7 +7,7 @@ use Rattle.tasks.specs.declared.pair.Pair.{Pair as CodePair}
 use Rattle.prohibitions.specs.declared.prohibiting.Prohibition.{Prohibition}
 use Rattle.tasks.specs.Pair.{pair_of}
 use Rattle.prohibitions.specs.Prohibiting.{put, put_all, with_each, every_two, pair_for, is_named, named}
-use Rattle.tasks.proofs.Mapped.{here, one_left, as_many}
+use Rattle.tasks.proofs.Mapped.{one_left, as_many}
 use Rattle.prohibitions.proofs.Puts.{put_all_least}
 
 -- what was added, and one part more

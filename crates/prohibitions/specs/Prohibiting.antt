@@ -1,11 +1,9 @@
 -- Trains that may not use some path: the task with k more trains, one for each path, and what its plans say of the plans of the first task. Assumes nothing.
-use Rattle.std.specs.Prelude.{◌≡◌, ℕ, zero, suc, ◌+◌, ◌<◌, Bool, true, cond, not, ◌&&◌, T, List, [], ◌∷◌, ◌++◌, map, length, take, drop, Ok, Err, Result, ◌==◌, nat_le, nat_lt}
+use Rattle.std.specs.Prelude.{◌≡◌, ℕ, zero, suc, ◌+◌, ◌<◌, Bool, true, cond, not, ◌&&◌, T, List, [], ◌∷◌, ◌++◌, map, length, take, drop, ◌==◌, nat_le, nat_lt}
 use Rattle.paths.specs.Plan.{Pair, Task, Plan, at, fits}
 use Rattle.paths.specs.Cheat.{up_to}
-use Rattle.tasks.specs.declared.fault.Fault.{Fault}
-use Rattle.tasks.specs.declared.fault.Fault.TheVariants.{Memory}
 use Rattle.prohibitions.specs.declared.prohibiting.Prohibition.{Prohibition}
-use Rattle.tasks.specs.Reading.{Got, got, refused, gives}
+use Rattle.tasks.specs.Reading.{Got, got, refused}
 use Rattle.tasks.specs.Task.{before}
 
 -- a pair put at its place among pairs in rising order, and not twice

@@ -1,4 +1,6 @@
 // The words of a round: the Boxes and the Opened that a plan and a lot give, and the test of an Opened; and how a showing ends for a side.
+#![tactic(auto)]
+
 mod closing;
 mod opening;
 mod over;

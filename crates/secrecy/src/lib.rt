@@ -1,4 +1,6 @@
 // The planner's secrecy over whole runs of its steps, against any asker: the definitions are in specs/, the proofs in proofs/.
+#![tactic(auto)]
+
 ghost use Rattle.std.specs.Prelude.{◌≡◌, ℕ, List, length};
 ghost use Rattle.sha256.specs.Sha256.{sha256};
 ghost use Rattle.secrecy.specs.Lots.{ByLots, PairsAsCoins};

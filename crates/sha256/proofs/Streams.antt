@@ -1,8 +1,8 @@
 -- What a hasher holds after one more part: a part that does not fill the block, and one that does.
-use Rattle.std.proofs.Common.{◌≡◌, ℕ, ◌+◌, ◌-◌, ◌*◌, ◌/◌, ◌%◌, ◌^◌, ◌<◌, ◌≤◌, List, ◌++◌, length, take, drop, sym, refl, ap, ◌∙◌, arith}
+use Rattle.std.proofs.Common.{◌≡◌, ℕ, ◌+◌, ◌-◌, ◌*◌, ◌/◌, ◌%◌, ◌^◌, ◌<◌, ◌≤◌, List, ◌++◌, length, take, drop, sym, ap, ◌∙◌, arith}
 use native.Mathlib.Nat.{mod-add-mod}
 use lib.Seq.{drop-append-add}
-use Rattle.std.proofs.lemmas.List.{append_assoc, drop-append-le, length-append, length-drop, length-take-le, take_all, take_at, take-append-drop}
+use Rattle.std.proofs.lemmas.List.{append_assoc, drop-append-le, length-append, length-drop, length-take-le, take_all, take-append-drop}
 use Rattle.sha256.specs.declared.state.State.{State}
 use Rattle.sha256.specs.Sha256.{H0, block, compress, hashed}
 use Rattle.sha256.proofs.Messages.{hashed_front, hashed-after, hashed-more}

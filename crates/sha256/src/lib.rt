@@ -1,4 +1,6 @@
 // SHA-256 of FIPS 180-4: the digest of a message, in one call or as its parts come.
+#![tactic(auto)]
+
 mod compress;
 mod hasher;
 mod message;

@@ -1,4 +1,6 @@
 // Where the programs begin their sides: the calls whose contracts carry what is promised of whole runs.
+#![tactic(auto)]
+
 mod asker;
 mod planner;
 

@@ -1,4 +1,6 @@
 // Soundness of the asker's steps over whole runs, against any planner: the definitions are in specs/, the proofs in proofs/.
+#![tactic(auto)]
+
 ghost use Rattle.soundness.specs.Examples.{Examples};
 ghost use Rattle.soundness.specs.Found.{FoundBoxes};
 ghost use Rattle.soundness.specs.Questioned.{RunsOn};

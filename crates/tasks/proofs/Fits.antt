@@ -1,9 +1,9 @@
 -- Pairs that a plan keeps apart, one by one, and the answer of the loop that looks at them.
-use Rattle.std.proofs.Common.{◌≡◌, ℕ, zero, suc, ◌+◌, ◌<◌, ◌≤◌, Bool, true, false, not, ◌&&◌, eqb, List, [], ◌∷◌, ◌++◌, map, length, get_or, take, Some, None, sym, ap, ◌∙◌, arith}
+use Rattle.std.proofs.Common.{◌≡◌, ℕ, zero, suc, ◌+◌, ◌<◌, ◌≤◌, true, false, not, ◌&&◌, List, [], ◌∷◌, ◌++◌, map, length, get_or, take, Some, None, sym, ap, ◌∙◌, arith}
 use Rattle.std.proofs.lemmas.Bool.Decides.{nat_tests}
 use Rattle.std.proofs.lemmas.List.{get_or_default, take_all}
 use Rattle.std.proofs.lemmas.Bool.{eq-eqb}
-use Rattle.paths.specs.Plan.{Pair, Task, Plan, at, apart, fits}
+use Rattle.paths.specs.Plan.{Pair, Task, Plan, at, apart}
 use Rattle.paths.specs.Show.{pair_at}
 use Rattle.tasks.specs.declared.fault.Unfit.{Unfit}
 use Rattle.tasks.specs.declared.pair.Pair.{Pair as CodePair}

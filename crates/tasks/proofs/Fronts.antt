@@ -1,10 +1,9 @@
 -- Bytes behind the longest good task or plan, and one more, change nothing of what is read.
-use Rattle.std.proofs.Common.{◌≡◌, ℕ, zero, suc, ◌+◌, ◌-◌, ◌*◌, ◌<◌, ◌≤◌, min, Bool, true, cond, eqb, leb, List, ◌++◌, length, take, drop, sym, refl, ap, ◌∙◌, inl, inr, suc-mul, mul-one, arith, length-drop, length-take}
+use Rattle.std.proofs.Common.{◌≡◌, ℕ, zero, suc, ◌+◌, ◌-◌, ◌*◌, ◌<◌, ◌≤◌, cond, leb, List, length, take, drop, sym, refl, ap, ◌∙◌, inl, inr, suc-mul, mul-one, arith, length-drop, length-take}
 use Rattle.std.proofs.lemmas.List.{take_all, take-append-drop, length-take-le, drop-take, get_or-take}
 use Rattle.std.proofs.lemmas.Bool.{cases_lt, le-leb, ne_eqb}
-use Rattle.std.proofs.lemmas.Bool.Decides.{nat_tests}
-use Rattle.paths.specs.Plan.{Task, at}
-use Rattle.tasks.specs.Reading.{Got, Head, Looked, Sees, got, refused, and_then, ends, read_each, read_head, read_pair, read_pairs, read_task, read_path, read_paths, read_plan_head, read_plan, task_in, pairs_from}
+use Rattle.paths.specs.Plan.{Task}
+use Rattle.tasks.specs.Reading.{Got, Sees, got, refused, and_then, ends, read_each, read_head, read_pair, read_pairs, read_task, read_path, read_paths, read_plan_head, read_plan, task_in, pairs_from}
 use Rattle.tasks.specs.Task.{lowest}
 use Rattle.tasks.proofs.Units.{Local}
 use Rattle.tasks.proofs.PairLaws.{pair_local}

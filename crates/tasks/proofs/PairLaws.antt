@@ -1,12 +1,12 @@
 -- Pairs that are read are in rising order, and reading and writing pairs are inverse.
-use Rattle.std.proofs.Common.{◌≡◌, ℕ, zero, suc, ◌+◌, ◌-◌, ◌*◌, ◌<◌, ◌≤◌, Bool, true, false, cond, ◌&&◌, eqb, ltb, leb, List, [], ◌∷◌, ◌++◌, length, drop, sym, refl, ap, ◌∙◌, arith, length-append, length-drop}
+use Rattle.std.proofs.Common.{◌≡◌, ℕ, zero, suc, ◌+◌, ◌*◌, ◌<◌, ◌≤◌, Bool, true, cond, ◌&&◌, ltb, List, [], ◌∷◌, ◌++◌, length, drop, sym, refl, ap, ◌∙◌, arith, length-append, length-drop}
 use Rattle.std.specs.List.{flat_map}
 use Rattle.std.proofs.lemmas.Bool.{ltb-true, and_parts, and_from, le-leb, lt-leb}
 use Rattle.std.proofs.lemmas.List.{get_or_append_left}
-use Rattle.paths.specs.Plan.{Pair, at, all_below}
-use Rattle.tasks.specs.Reading.{Got, Looked, got, refused, and_then, unit, ends, read_each, read_pair, pair_in, pairs_from, word_at}
+use Rattle.paths.specs.Plan.{Pair, all_below}
+use Rattle.tasks.specs.Reading.{Got, Looked, got, refused, read_each, read_pair, pair_in, pairs_from, word_at}
 use Rattle.tasks.specs.Task.{is_there, rises, rising}
-use Rattle.tasks.specs.Writing.{pair_bytes, word_bytes}
+use Rattle.tasks.specs.Writing.{pair_bytes}
 use Rattle.tasks.proofs.Units.{unit_got, cond-got, then_got, ends-got, Local}
 use Rattle.tasks.proofs.Words.{word_back, word_high, word_low}
 

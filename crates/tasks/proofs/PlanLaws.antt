@@ -1,9 +1,9 @@
 -- Reading and writing plans are inverse.
-use Rattle.std.proofs.Common.{◌≡◌, ℕ, zero, suc, ◌+◌, ◌-◌, ◌*◌, ◌<◌, ◌≤◌, Bool, true, false, cond, ◌&&◌, eqb, ltb, leb, List, [], ◌∷◌, ◌++◌, length, take, drop, sym, refl, ap, ◌∙◌, inl, inr, arith, length-append, length-drop}
+use Rattle.std.proofs.Common.{◌≡◌, ℕ, zero, suc, ◌+◌, ◌*◌, ◌<◌, ◌≤◌, true, cond, eqb, ltb, List, [], ◌∷◌, ◌++◌, length, take, drop, sym, refl, ap, ◌∙◌, inl, inr, arith, length-drop}
 use Rattle.std.proofs.lemmas.Bool.{ltb-true, eqb-true, eq-eqb, and_parts, and_from, cases_lt, le-leb}
 use Rattle.std.proofs.lemmas.List.{get_or_append_left, drop-append-le, take-append-drop}
 use Rattle.paths.specs.Plan.{Task, Plan, at, all_below}
-use Rattle.tasks.specs.Reading.{Got, Looked, got, refused, and_then, unit, read_each, read_path, read_paths, read_plan_head, read_plan, word_at}
+use Rattle.tasks.specs.Reading.{Got, Looked, got, refused, and_then, read_each, read_path, read_paths, read_plan_head, read_plan, word_at}
 use Rattle.tasks.specs.Writing.{word_bytes, plan_bytes, is_plan, Inverse}
 use Rattle.tasks.proofs.Units.{unit_got, then_got, ends-got, unit_good, unit-cut, unit_prefix, each-cut, Local}
 use Rattle.tasks.proofs.Words.{word_back, word_high, word_low}

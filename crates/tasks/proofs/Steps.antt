@@ -1,11 +1,11 @@
 -- One turn of a loop that reads, as laws of what is left to read: one unit more, its fault, and the end.
-use Rattle.std.proofs.Common.{◌≡◌, ℕ, suc, ◌+◌, ◌-◌, ◌<◌, ◌≤◌, List, [], ◌∷◌, ◌++◌, map, drop, Ok, Err, Result, sym, refl, append_assoc, append-nil, arith}
+use Rattle.std.proofs.Common.{◌≡◌, ℕ, suc, ◌+◌, ◌-◌, ◌<◌, ◌≤◌, List, [], ◌∷◌, ◌++◌, map, drop, Ok, Err, Result, refl, append_assoc, append-nil, arith}
 use mathlib.Core.List.{map-append}
 use Rattle.paths.specs.Plan.{Pair, Task}
 use Rattle.tasks.specs.declared.fault.Fault.{Fault}
 use Rattle.tasks.specs.declared.pair.Pair.{Pair as CodePair}
 use Rattle.tasks.specs.Pair.{pair_of}
-use Rattle.tasks.specs.Reading.{Got, Head, Looked, got, refused, and_then, ends, read_each, read_head, read_pairs, read_paths, read_plan_head, read_plan, pair_in, pairs_from, read_task, task_in, gives, looks}
+use Rattle.tasks.specs.Reading.{Got, Head, Looked, got, refused, ends, read_each, read_head, read_pairs, read_paths, read_plan_head, read_plan, pair_in, pairs_from, read_task, task_in, gives, looks}
 
 -- one more of m, where i are done
 left : (m i : ℕ) → i < m → m - i ≡ suc (m - (i + 1))

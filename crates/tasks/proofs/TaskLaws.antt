@@ -1,12 +1,12 @@
 -- Reading and writing tasks are inverse, and a task that was read is sound.
-use Rattle.std.proofs.Common.{◌≡◌, ℕ, zero, suc, ◌+◌, ◌-◌, ◌*◌, ◌<◌, ◌≤◌, Bool, true, false, cond, ◌&&◌, eqb, ltb, leb, List, [], ◌∷◌, ◌++◌, length, take, drop, sym, refl, ap, ◌∙◌, inl, inr, arith, length-append, length-drop, length-take}
+use Rattle.std.proofs.Common.{◌≡◌, ℕ, zero, suc, ◌+◌, ◌*◌, ◌<◌, ◌≤◌, Bool, true, eqb, ltb, leb, List, [], ◌∷◌, ◌++◌, length, take, drop, sym, refl, ap, ◌∙◌, inl, inr, arith, length-drop}
 use Rattle.std.specs.List.{flat_map}
 use Rattle.std.proofs.lemmas.Bool.{leb-true, ltb-true, eqb-true, and_parts, and_from, cases_lt, le-leb}
 use Rattle.std.proofs.lemmas.List.{get_or_append_left, drop-append-le, take-append-drop}
 use Rattle.paths.specs.Plan.{Pair, Task, at, all_below}
-use Rattle.tasks.specs.Reading.{Got, Head, Looked, got, refused, and_then, unit, read_each, read_head, read_pair, read_pairs, read_task, pairs_from, task_in, word_at}
+use Rattle.tasks.specs.Reading.{Head, Looked, got, refused, and_then, read_head, read_pair, read_pairs, read_task, pairs_from, task_in, word_at}
 use Rattle.tasks.specs.Task.{within, lowest, rising, sound}
-use Rattle.tasks.specs.Writing.{word_bytes, pair_bytes, head_bytes, task_bytes, Inverse}
+use Rattle.tasks.specs.Writing.{pair_bytes, head_bytes, task_bytes, Inverse}
 use Rattle.tasks.proofs.Units.{unit_got, then_got, unit_good, unit_prefix, each-cut}
 use Rattle.tasks.proofs.Words.{word_back, word_high, word_low}
 use Rattle.tasks.proofs.PairLaws.{pairs-sound, pairs_written, pairs-only, pair_local, word_sees}

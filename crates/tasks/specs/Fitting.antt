@@ -1,6 +1,6 @@
 -- What is said of a plan: the first pair that it fails. Assumes nothing.
-use Rattle.std.specs.Prelude.{◌≡◌, ℕ, ◌<◌, Bool, true, false, not, ◌&&◌, eqb, length, take, is_some, Option, MatchOption}
-use Rattle.paths.specs.Plan.{Pair, Task, Plan, at, apart, fits}
+use Rattle.std.specs.Prelude.{◌≡◌, ◌<◌, true, not, ◌&&◌, length, take, is_some, Option, MatchOption}
+use Rattle.paths.specs.Plan.{Task, Plan, at, apart, fits}
 use Rattle.paths.specs.Show.{pair_at}
 use Rattle.tasks.specs.declared.fault.Unfit.{Unfit}
 use Rattle.tasks.specs.Writing.{is_plan}

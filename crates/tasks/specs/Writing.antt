@@ -1,5 +1,5 @@
 -- Tasks and plans as bytes, and the law that joins reading and writing. Assumes nothing.
-use Rattle.std.specs.Prelude.{◌≡◌, ℕ, ◌/◌, ◌%◌, ◌<◌, Bool, true, ◌&&◌, T, List, [], ◌∷◌, ◌++◌, length, take, ◌==◌}
+use Rattle.std.specs.Prelude.{◌≡◌, ℕ, ◌/◌, ◌%◌, ◌<◌, Bool, true, ◌&&◌, List, [], ◌∷◌, ◌++◌, length, take, ◌==◌}
 use Rattle.std.specs.List.{flat_map}
 use Rattle.paths.specs.Plan.{Pair, Task, Plan, all_below}
 use Rattle.tasks.specs.Reading.{Got, got, refused}

@@ -1,4 +1,6 @@
 // Tasks and plans as bytes, read exactly or refused by a fault; and the first pair that a plan fails.
+#![tactic(auto)]
+
 mod fault;
 mod fitting;
 mod pair;

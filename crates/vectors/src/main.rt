@@ -1,5 +1,7 @@
 // Prints digests of the standard's published messages, of messages whose lengths lie around each edge of
 // the padding, whole and in parts, and of eight texts at once.
+#![tactic(auto)]
+
 use lanes::digests;
 use sha256::{Hasher, digest};
 use std::{fmt, io};

@@ -1,4 +1,6 @@
 // The six words that pass between planner and asker: read exactly or refused by a fault, written, and where to stop reading them from a stream.
+#![tactic(auto)]
+
 mod reading;
 mod stops;
 mod word;

@@ -1,4 +1,4 @@
-use Rattle.std.proofs.Common.{◌≡◌, sym, ap, ◌∙◌, arith}
+use Rattle.std.proofs.Common.{sym, arith}
 use Rattle.sha256.specs.Sha256.{sha256}
 use Rattle.boxes.specs.Model.{opening_of}
 use Rattle.boxes.proofs.Binds.{opened_twice_lem, binds, collision_none, collision_some}

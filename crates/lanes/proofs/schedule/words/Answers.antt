@@ -1,5 +1,5 @@
 -- Each word of a block in its own way.
-use Rattle.std.proofs.Common.{◌≡◌, ℕ, ◌<◌, List, [], get_or, sym, ap, ◌∙◌, arith}
+use Rattle.std.proofs.Common.{ℕ, List, [], get_or, sym, ap, ◌∙◌, arith}
 use Rattle.sha256.specs.Sha256.{padded, word}
 use Rattle.lanes.specs.Lane.{lane}
 use Rattle.lanes.proofs.States.{word_zero, word_size}

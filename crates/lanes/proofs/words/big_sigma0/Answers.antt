@@ -1,8 +1,7 @@
 -- Lane by lane, the code is the definition.
-use Rattle.std.proofs.Common.{◌+◌, ◌-◌, ◌*◌, ◌/◌, ◌%◌, ◌^◌}
-use lib.Bits.{bit_and, bit_or, bit_xor}
-use Rattle.sha256.specs.Sha256.{NOT, SHR, ROTR, Ch, Maj, Σ0, Σ1, σ0, σ1}
-use Rattle.lanes.proofs.Vectors.{itself, splat, by_one, by_two}
+use lib.Bits.{bit_xor}
+use Rattle.sha256.specs.Sha256.{Σ0}
+use Rattle.lanes.proofs.Vectors.{by_two}
 use Rattle.lanes.proofs.words.big_sigma0.Goals as goal
 
 pub returns : goal.returns

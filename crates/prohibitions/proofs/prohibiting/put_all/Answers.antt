@@ -1,4 +1,4 @@
-use Rattle.std.proofs.Common.{◌∙◌, inl, inr, arith}
+use Rattle.std.proofs.Common.{inl, inr, arith}
 use Rattle.std.proofs.lemmas.Result.{err_from_is_err_and}
 use Rattle.prohibitions.proofs.Adding.{put-more, put_too_many, put-end}
 use Rattle.prohibitions.proofs.prohibiting.put_all.Goals as goal

@@ -1,5 +1,5 @@
 -- The pairs that are left are put after those that were put.
-use Rattle.std.proofs.Common.{◌≡◌, ◌≤◌, map, length, drop, vec_items, vec_len}
+use Rattle.std.proofs.Common.{◌≡◌, ◌≤◌, map, drop, vec_items, vec_len}
 use Rattle.tasks.specs.Pair.{pair_of}
 use Rattle.prohibitions.specs.Prohibiting.{put_all}
 use Rattle.prohibitions.proofs.prohibiting.put_all.Given as goal

@@ -1,5 +1,5 @@
 -- The block's own words and their rounds before the loop, and all sixty-four after it.
-use Rattle.std.proofs.Common.{◌≡◌, ◌*◌, ◌∙◌, arith}
+use Rattle.std.proofs.Common.{◌*◌, ◌∙◌, arith}
 use Rattle.sha256.proofs.Rounds.{no_steps, midway_first, midway_all}
 use Rattle.sha256.proofs.compress.compress.Goals as goal
 

@@ -1,5 +1,5 @@
 -- The words and the rounds have come as far as 8 * i + 16.
-use Rattle.std.proofs.Common.{◌≡◌, ◌*◌, length}
+use Rattle.std.proofs.Common.{◌*◌}
 use Rattle.sha256.specs.Midway.{Midway}
 use Rattle.sha256.proofs.compress.compress.Given as goal
 

@@ -1,6 +1,5 @@
 -- Each round is one more.
-use Rattle.std.proofs.Common.{◌≡◌, ◌+◌, refl, arith}
-use Rattle.sha256.specs.Sha256.{steps}
+use Rattle.std.proofs.Common.{◌+◌, refl, arith}
 use Rattle.sha256.proofs.Rounds.{one_more}
 use Rattle.sha256.proofs.compress.eight_steps.Goals as goal
 

@@ -1,5 +1,5 @@
 -- The cut is after the last whole block.
-use Rattle.std.proofs.Common.{ℕ, ◌*◌, ◌/◌, List, length, sym, ap, ◌∙◌}
+use Rattle.std.proofs.Common.{ℕ, ◌*◌, ◌/◌, List, length, sym}
 use Rattle.std.proofs.lemmas.List.{take_rest}
 use Rattle.sha256.proofs.Messages.{length_rest}
 use Rattle.sha256.proofs.message.after_blocks.Goals as goal

@@ -1,5 +1,5 @@
 -- One more byte, and all eight.
-use Rattle.std.proofs.Common.{◌≡◌, ◌+◌, ◌*◌, ◌%◌, ◌^◌, length, get_or, take, refl, ap, ◌∙◌, mul_comm, arith}
+use Rattle.std.proofs.Common.{◌≡◌, ◌+◌, ◌*◌, ◌%◌, ◌^◌, length, get_or, take, ap, ◌∙◌, mul_comm, arith}
 use Rattle.std.proofs.lemmas.List.{length-set}
 use Rattle.sha256.proofs.Bytes.{tail_more, tail_all, bytes-mod}
 use Rattle.sha256.proofs.message.sized.Goals as goal

@@ -1,5 +1,5 @@
 -- One more byte, and all of the part.
-use Rattle.std.proofs.Common.{◌≡◌, ◌+◌, length, get_or, take, ap, ◌∙◌, arith}
+use Rattle.std.proofs.Common.{◌≡◌, ◌+◌, length, get_or, take, ◌∙◌, arith}
 use Rattle.std.proofs.lemmas.List.{length-set, take_all}
 use Rattle.sha256.proofs.Bytes.{tail_more}
 use Rattle.sha256.proofs.stream.filled.Goals as goal

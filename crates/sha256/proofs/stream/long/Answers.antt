@@ -1,5 +1,5 @@
 -- The block is filled, and the bytes after the last whole block are held.
-use Rattle.std.proofs.Common.{◌≡◌, ℕ, ◌-◌, ◌*◌, ◌/◌, List, length, take, drop, sym, ap, ◌∙◌, zero-add, rules}
+use Rattle.std.proofs.Common.{◌≡◌, ℕ, ◌-◌, List, length, take, drop, sym, ap, ◌∙◌, zero-add, rules}
 use native.Mathlib.Nat.{sub-zero}
 use Rattle.std.proofs.lemmas.List.{take_rest}
 use Rattle.sha256.proofs.Streams.{total-more, long-held, long-state, long_kept}

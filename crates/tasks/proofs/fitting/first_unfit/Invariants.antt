@@ -1,5 +1,5 @@
 -- The pairs that were passed are kept apart.
-use Rattle.std.proofs.Common.{◌≡◌, true, map, take, None, vec_items}
+use Rattle.std.proofs.Common.{◌≡◌, true, take, None}
 use Rattle.paths.specs.Plan.{apart}
 use Rattle.tasks.specs.Model.{task_of, plan_of}
 use Rattle.tasks.proofs.fitting.first_unfit.Given as goal
