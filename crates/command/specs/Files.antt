@@ -11,7 +11,7 @@ use Rattle.command.specs.declared.problem.Problem.TheVariants.{Argument, File, W
 abbrev pub names : Problem → String Global → Type 0
 names (Argument w) name = ⊥
 names (File n e) name = n ≡ name
-names (Written n e) name = n ≡ name
+names (Written n e) name = ⊥
 names (Fault f) name = ⊥
 names (InFile f n) name = n ≡ name
 names (InRound f r n) name = n ≡ name
