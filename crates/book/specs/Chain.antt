@@ -1,6 +1,6 @@
 -- The book is a chain of digests: the task's, and after each round one of the digest before it and the round's words. H is any function in the place of SHA-256. Assumes nothing.
 use Rattle.std.specs.Prelude.{◌≡◌, ℕ, true, cond, ◌⊎◌, List, [], ◌∷◌, ◌++◌, length}
-use Rattle.std.specs.List.{AllByRecursion as All}
+use Rattle.std.specs.List.{AllByRecursion}
 use Rattle.paths.specs.Count.{same_row}
 use Rattle.boxes.specs.Binding.{TwoTexts, collides}
 use Rattle.book.specs.Lengths.{TaskText, RoundText}
@@ -31,5 +31,5 @@ Sized H = (x : List ℕ) → length (H x) ≡ 32
 -- Books of one last digest are the same, task and rounds, or the two texts at their breach collide.
 abbrev pub Binds : (List ℕ → List ℕ) → Type 0
 Binds H =
-    (a b : List ℕ) (ws vs : List (List ℕ)) → TaskText a → TaskText b → All RoundText ws → All RoundText vs →
+    (a b : List ℕ) (ws vs : List (List ℕ)) → TaskText a → TaskText b → AllByRecursion RoundText ws → AllByRecursion RoundText vs →
     after H a ws ≡ after H b vs → (collides H (breach H a ws b vs) ≡ true) ⊎ ((a ≡ b) × (ws ≡ vs))
