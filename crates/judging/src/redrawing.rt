@@ -82,7 +82,7 @@ fn other_answer(
     round: &Round,
 ) -> Option<u16>
     requires { length chances.now ≡ 32 * task.now.trains }
-    ensures { result ≡ other_answer (task_of task.now) number (plan_of plan.now) (record { order = order_of order.entry.now; chances = chances.now }) (round_of round.now) }
+    ensures { result ≡ other_answer (task_of task.now) number (plan_of plan.now) (record { order = order_of order.now; chances = chances.now }) (round_of round.now) }
 {
     let opened = opened_in(round);
     if opened.len() != 75 {
@@ -119,7 +119,7 @@ fn other_train(
     requires fits { fits (task_of task.now) (plan_of plan.now) ≡ true }
     requires chances { length chances.now ≡ 32 * task.now.trains }
     requires room { length memory.old ≡ 7 + 32 * task.now.trains }
-    ensures { result ≡ other_train sha256 (task_of task.now) number (plan_of plan.now) (record { order = order_of order.entry.now; chances = chances.now }) (round_of round.now) }
+    ensures { result ≡ other_train sha256 (task_of task.now) number (plan_of plan.now) (record { order = order_of order.now; chances = chances.now }) (round_of round.now) }
 {
     put_boxes(plan, number, order, chances, memory);
     let digests = digests_in(round.asked.boxes.as_slice());

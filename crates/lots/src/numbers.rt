@@ -34,7 +34,7 @@ fn value_at(bytes: &[u8], at: usize) -> u32
 // A number below `below` from the bytes that begin at `start`.
 pub(crate) fn draw_number(below: u32, bytes: &[u8], start: usize) -> Result<Number, Fault>
     requires some { 0 < below }
-    requires within { start ≤ length bytes.now }
+    requires start { start ≤ length bytes.now }
     ensures number { gives (number_at bytes.now) result ≡ number_in below (drop start bytes.now) }
     ensures within { IfOk result (λ n. (n.value < below) × (n.end ≤ length bytes.now)) }
 {

@@ -45,7 +45,7 @@ fn refill(memory: &mut Vec<u8>, bytes: &[u8])
 fn put_boxes(plan: &Plan, round: u32, order: &Order, chances: &[u8], word: &mut Vec<u8>)
     requires chances { length chances.now ≡ 32 * length (plan_of plan.now) }
     requires room { vec_len word.old ≡ 7 + 32 * length (plan_of plan.now) }
-    ensures items { word.new.items ≡ said_bytes (boxes_for sha256 round (plan_of plan.now) (record { order = order_of order.entry.now; chances = chances.now })) }
+    ensures items { word.new.items ≡ said_bytes (boxes_for sha256 round (plan_of plan.now) (record { order = order_of order.now; chances = chances.now })) }
     ensures len { vec_len word.new ≡ vec_len word.old }
 {
     write_boxes(plan, round, order, chances, word.as_mut_slice());

@@ -44,7 +44,7 @@ fn put_head(out: &mut [u8], round: u32, trains: u16)
 fn put_boxes(plan: &Plan, round: u32, order: &Order, chances: &[u8], out: &mut [u8])
     requires chances { length chances.now ≡ 32 * length (plan_of plan.now) }
     requires room { 7 + 32 * length (plan_of plan.now) ≤ length out.old }
-    ensures { out.new ≡ said_bytes (boxes_for sha256 round (plan_of plan.now) (record { order = order_of order.entry.now; chances = chances.now })) ++ drop (7 + 32 * length (plan_of plan.now)) out.old }
+    ensures { out.new ≡ said_bytes (boxes_for sha256 round (plan_of plan.now) (record { order = order_of order.now; chances = chances.now })) ++ drop (7 + 32 * length (plan_of plan.now)) out.old }
 {
     let count = plan.paths.len();
     let numbers = numbers(plan, order);
@@ -61,7 +61,7 @@ pub fn write_boxes(
     chances: &[u8],
     out: &mut [u8],
 ) -> Option<usize>
-    ensures { wrote_to result out.new ≡ write_boxes sha256 round (plan_of plan.now) (record { order = order_of order.entry.now; chances = chances.now }) out.old }
+    ensures { wrote_to result out.new ≡ write_boxes sha256 round (plan_of plan.now) (record { order = order_of order.now; chances = chances.now }) out.old }
 {
     let size = 7 + 32 * plan.paths.len();
     if chances.len() + 7 != size || out.len() < size {

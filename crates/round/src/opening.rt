@@ -28,7 +28,7 @@ fn part_of(bytes: &[u8], train: u16) -> [u8; 32]
 
 fn opening_for(plan: &Plan, order: &Order, chances: &[u8], train: u16) -> Opening
     requires { 32 * train + 32 ≤ length chances.now }
-    ensures { opening_of result ≡ opening_for (plan_of plan.now) (record { order = order_of order.entry.now; chances = chances.now }) train }
+    ensures { opening_of result ≡ opening_for (plan_of plan.now) (record { order = order_of order.now; chances = chances.now }) train }
 {
     Opening {
         train,
@@ -66,7 +66,7 @@ fn opened_for(
     chances: &[u8],
     pair: u16,
 ) -> Option<[u8; 75]>
-    ensures { result ≡ opened_bytes (task_of task.now) round (plan_of plan.now) (record { order = order_of order.entry.now; chances = chances.now }) pair }
+    ensures { result ≡ opened_bytes (task_of task.now) round (plan_of plan.now) (record { order = order_of order.now; chances = chances.now }) pair }
 {
     let Ok(asked) = pair_at(task, pair) else {
         return None;
@@ -88,7 +88,7 @@ pub fn opened_word(
     chances: &[u8],
     pair: u16,
 ) -> Option<[u8; 75]>
-    ensures word { result ≡ opened_bytes (task_of task.now) round (plan_of plan.now) (record { order = order_of order.entry.now; chances = chances.now }) pair }
+    ensures word { result ≡ opened_bytes (task_of task.now) round (plan_of plan.now) (record { order = order_of order.now; chances = chances.now }) pair }
     ensures complete { (hash : List ℕ → List ℕ) → ((text : List ℕ) → length (hash text) ≡ 32) → Complete hash }
 {
     opened_for(task, plan, round, order, chances, pair)
