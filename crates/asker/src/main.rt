@@ -10,6 +10,7 @@ use showing::Showing;
 use sides::start_asker;
 use soundness::enough_rounds;
 use std::env;
+use std::process::ExitCode;
 
 const USAGE: &str =
     "usage: asker --task FILE --drawn FILE [--rounds N] [--book FILE] [--words FILE] [--progress]";
@@ -83,6 +84,10 @@ fn run(rt: &HostRuntime) -> Result<Ending, Problem> {
     ask(rt, read_options(arguments)?)
 }
 
-fn main(rt: HostRuntime) -> Result<(), ()> {
-    conclude(&rt, USAGE, run(&rt))
+// What there is to tell was told, so no error is handed on.
+fn main(rt: HostRuntime) -> ExitCode {
+    match conclude(&rt, USAGE, run(&rt)) {
+        Ok(()) => ExitCode::SUCCESS,
+        Err(()) => ExitCode::FAILURE,
+    }
 }

@@ -13,6 +13,7 @@ use hearing::Hearing;
 use judging::Judge;
 use keeping::Drawn;
 use std::env;
+use std::process::ExitCode;
 use tasks::{Fault, Plan, Task};
 use telling::tell;
 
@@ -127,6 +128,10 @@ fn run(rt: &HostRuntime) -> Result<Ending, Problem> {
     judge(rt, read_options(arguments)?)
 }
 
-fn main(rt: HostRuntime) -> Result<(), ()> {
-    conclude(&rt, USAGE, run(&rt))
+// What there is to tell was told, so no error is handed on.
+fn main(rt: HostRuntime) -> ExitCode {
+    match conclude(&rt, USAGE, run(&rt)) {
+        Ok(()) => ExitCode::SUCCESS,
+        Err(()) => ExitCode::FAILURE,
+    }
 }

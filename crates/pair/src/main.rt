@@ -9,6 +9,7 @@ use pairing::{Plans, ask_in};
 use source::Source;
 use std::env;
 use std::io::{BufWriter, Write};
+use std::process::ExitCode;
 use tasks::{Fault, MOST_ROUNDS, Task};
 
 // The length of a word that asks for a pair.
@@ -140,6 +141,10 @@ fn run(rt: &HostRuntime) -> Result<(), Problem> {
     pair(rt, read_options(arguments)?)
 }
 
-fn main(rt: HostRuntime) -> Result<(), ()> {
-    finish(&rt, USAGE, run(&rt))
+// What there is to tell was told, so no error is handed on.
+fn main(rt: HostRuntime) -> ExitCode {
+    match finish(&rt, USAGE, run(&rt)) {
+        Ok(()) => ExitCode::SUCCESS,
+        Err(()) => ExitCode::FAILURE,
+    }
 }

@@ -10,6 +10,7 @@ use keeping::{Drawn, Line, Progress, Records, rounds_for, tell};
 use showing::Showing;
 use sides::start_planner;
 use std::env;
+use std::process::ExitCode;
 
 const USAGE: &str =
     "usage: planner --task FILE --plan FILE --drawn FILE [--rounds N] [--book FILE] [--words FILE] [--progress]";
@@ -85,6 +86,10 @@ fn run(rt: &HostRuntime) -> Result<Ending, Problem> {
     show(rt, read_options(arguments)?)
 }
 
-fn main(rt: HostRuntime) -> Result<(), ()> {
-    conclude(&rt, USAGE, run(&rt))
+// What there is to tell was told, so no error is handed on.
+fn main(rt: HostRuntime) -> ExitCode {
+    match conclude(&rt, USAGE, run(&rt)) {
+        Ok(()) => ExitCode::SUCCESS,
+        Err(()) => ExitCode::FAILURE,
+    }
 }
