@@ -19,7 +19,7 @@ impl Rounds {
     pub fn new(count: u64) -> Result<Rounds, Fault>
         ensures { gives (λ (n : Rounds). n.count) result ≡ asked_rounds count }
     {
-        if count > 16777216 {
+        if count > u64::from(MOST_ROUNDS) {
             return Err(Fault::TooManyRounds);
         }
         Ok(Rounds {
