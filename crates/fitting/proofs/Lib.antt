@@ -1,2 +1,1 @@
 pub mod Belows
-pub mod Asked

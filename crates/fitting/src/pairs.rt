@@ -11,8 +11,8 @@ use tasks::{Fault, Pair, Task};
 pub fn pair_at(task: &Task, number: u16) -> Result<Pair, Fault>
     ensures { gives pair_of result ≡ asked_pair (task_of task.now) number }
 {
-    match task.pairs.get(number as usize) {
-        Some(pair) => Ok(*pair),
-        None => Err(Fault::NoPair),
-    }
+    task.pairs
+        .get(number as usize)
+        .copied()
+        .ok_or(Fault::NoPair)
 }

@@ -28,10 +28,5 @@ pub fn test_plan(task: &Task, plan: &Plan) -> Result<(), Fault>
 fn all_below(count: u8, paths: &[u8]) -> bool
     ensures { result ≡ all_below count paths.now }
 {
-    for path in paths {
-        if *path >= count {
-            return false;
-        }
-    }
-    true
+    paths.iter().all(|path| *path < count)
 }

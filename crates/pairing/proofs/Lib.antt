@@ -1,5 +1,3 @@
-pub mod Belows
 pub mod Tested
-pub mod Asked
 pub mod Promises
 pub mod Bytes

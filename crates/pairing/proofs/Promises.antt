@@ -19,7 +19,8 @@ use Rattle.pairing.specs.declared.plans.Plans.{Plans}
 use Rattle.tasks.specs.Reading.{got, refused}
 use Rattle.pairing.specs.Coins.{Promised, paired_order, order_for}
 use Rattle.pairing.specs.Plans.{both_of}
-use Rattle.pairing.specs.Pairs.{asked_pair, paths_of, partners_for}
+use Rattle.fitting.specs.Pairs.{asked_pair}
+use Rattle.pairing.specs.Pairs.{paths_of, partners_for}
 
 pub is_true : (b : Bool) → b ≡ true → T b
 is_true b e = rw e tt

@@ -6,7 +6,8 @@ use Rattle.tasks.specs.declared.fault.Fault.TheVariants as faults
 use Rattle.tasks.specs.Fault.{number}
 use Rattle.tasks.specs.Fitting.{Lowest}
 use Rattle.tasks.specs.Reading.{Got, Looked, got, refused}
-use Rattle.pairing.specs.Plans.{tested, tested_both, TellsPair, told}
+use Rattle.fitting.specs.Testing.{tested, TellsPair}
+use Rattle.pairing.specs.Plans.{tested_both, told}
 
 no_got : {P : Type 0} (f : ℕ) (x : Looked) → got x ≡ refused f → P
 no_got f x e = let z : ◌≡◌ {A = ℕ} 0 1 = cc in absurd (omega arith)

@@ -2,7 +2,7 @@
 use Rattle.std.specs.Prelude.{ℕ, ◌+◌, ◌*◌, true, cond, List, length, ◌==◌}
 use Rattle.paths.specs.Plan.{Task, at}
 use Rattle.tasks.specs.Reading.{Got, got, refused, and_then, unit, word_at}
-use Rattle.pairing.specs.Pairs.{asked_pair}
+use Rattle.fitting.specs.Pairs.{asked_pair}
 
 -- four bytes, high byte first
 abbrev pub long_at : List ℕ → ℕ → ℕ

@@ -8,7 +8,7 @@ use Rattle.paths.specs.Pairing.{pair_coin}
 use Rattle.paths.specs.Paired.{AlikeBy}
 use Rattle.paths.specs.Promise.{IsCoin}
 use Rattle.tasks.specs.Reading.{Got, got, refused, and_then}
-use Rattle.pairing.specs.Pairs.{asked_pair}
+use Rattle.fitting.specs.Pairs.{asked_pair}
 use Rattle.pairing.specs.Plans.{Both}
 
 -- the order of the coin that goes with one with order xs, where pair i is asked for

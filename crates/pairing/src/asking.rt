@@ -4,8 +4,8 @@ ghost use Rattle.tasks.specs.Model.{task_of};
 ghost use Rattle.tasks.specs.Reading.{gives};
 ghost use Rattle.pairing.specs.Asking.{read_word, read_ask};
 
-use super::pairs::pair_at;
-use tasks::{Fault, Task};
+use fitting::pair_at;
+use tasks::{Fault, Kind, Task};
 
 // The number of the pair that these bytes ask for in this round, or the first fault.
 pub fn ask_in(task: &Task, round: u32, bytes: &[u8]) -> Result<u16, Fault>
@@ -19,9 +19,12 @@ pub fn ask_in(task: &Task, round: u32, bytes: &[u8]) -> Result<u16, Fault>
 fn word_in(round: u32, bytes: &[u8]) -> Result<u16, Fault>
     ensures { gives (λ i. i) result ≡ read_word round bytes.now }
 {
-    let [4, a, b, c, d, high, low] = bytes else {
+    let [kind, a, b, c, d, high, low] = bytes else {
         return Err(Fault::Shape);
     };
+    if *kind != Kind::Ask.byte() {
+        return Err(Fault::Shape);
+    }
     if u32::from_be_bytes([*a, *b, *c, *d]) != round {
         return Err(Fault::NotAwaited);
     }

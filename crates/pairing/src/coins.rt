@@ -5,8 +5,8 @@ ghost use Rattle.tasks.specs.Reading.{gives};
 ghost use Rattle.pairing.specs.Coins.{order_for, order_in, coin_for, left_by, Goes, Promised};
 ghost use Rattle.pairing.specs.Plans.{both_of};
 
-use super::pairs::pair_at;
 use super::plans::Plans;
+use fitting::pair_at;
 use paths::Order;
 use tasks::Fault;
 
@@ -28,7 +28,8 @@ impl Plans {
         ensures promise { Promised (both_of self.now) }
     {
         let order = self.order_in(question, coin)?;
-        put(coin, order.as_slice());
+        let numbers = order.as_slice();
+        coin[..numbers.len()].copy_from_slice(numbers);
         Ok(())
     }
 
@@ -40,7 +41,7 @@ impl Plans {
             return Err(Fault::Shape);
         }
         pair_at(&self.task, question)?;
-        let Some(order) = Order::new(&coin[0..paths]) else {
+        let Some(order) = Order::new(&coin[..paths]) else {
             return Err(Fault::BadNumber);
         };
         self.order_for(question, &order)
@@ -58,12 +59,4 @@ impl Plans {
         };
         Ok(paired)
     }
-}
-
-// Writes the bytes to the front.
-fn put(coin: &mut [u8], bytes: &[u8])
-    requires { length bytes.now ≤ length coin.old }
-    ensures { coin.new ≡ bytes.now ++ drop (length bytes.now) coin.old }
-{
-    coin[0..bytes.len()].copy_from_slice(bytes);
 }

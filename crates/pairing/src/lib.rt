@@ -3,9 +3,9 @@
 
 mod asking;
 mod coins;
-mod fitting;
 mod pairs;
 mod plans;
+mod testing;
 
 pub use asking::ask_in;
 pub use plans::Plans;

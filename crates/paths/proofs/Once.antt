@@ -1,6 +1,6 @@
 -- Rows in which no number stands twice, looked at from the end, with a table of the numbers that were met. Assumes nothing.
-use Rattle.std.proofs.Common.{◌≡◌, ℕ, zero, suc, ◌+◌, ◌-◌, ◌<◌, ◌≤◌, Bool, true, false, not, ◌||◌, ltb, List, [], ◌∷◌, length, get_or, drop, set, replicate, sym, ap, ◌∙◌, inl, inr, arith}
-use Rattle.std.proofs.lemmas.List.{get_or-set_same, get_or-set_other, get_or-replicate, length-replicate, length-set, drop_all, drop_more}
+use Rattle.std.proofs.Common.{◌≡◌, ℕ, zero, suc, ◌+◌, ◌-◌, ◌<◌, ◌≤◌, Bool, true, false, not, ◌||◌, ltb, List, [], ◌∷◌, length, get_or, drop, set, replicate, reverse, sym, ap, ◌∙◌, inl, inr, arith}
+use Rattle.std.proofs.lemmas.List.{get_or-set_same, get_or-set_other, get_or-replicate, length-replicate, length-set, length-reverse, get_or-reverse, drop_all, drop_more}
 use Rattle.std.proofs.lemmas.Bool.{cases_eq, eq-eqb, ne_eqb, and_parts, and_from, and_left, and_right, lt-ltb, le-ltb, not_from_false, cases_Bool, both_ways}
 use Rattle.paths.specs.Plan.{all_below, is_in, different}
 use Rattle.paths.specs.Order.{none_twice}
@@ -52,43 +52,46 @@ row_fails n i xs f =
       | inr r ↦ r
     ]
 
--- one turn of the loop that goes from the end: i numbers are left
+-- the loop goes from the end: i numbers are left
 pub record Passed (met : List Bool) (n i : ℕ) (xs : List ℕ) : Type 0 where
   pub size : length met ≡ 64
   pub tells : Met met (drop i xs)
   pub row : none_twice n (drop i xs) ≡ true
 
-pub passed_none : (met : List Bool) (n : ℕ) (xs : List ℕ) → met ≡ replicate 64 false → Passed met n (length xs) xs
+pub passed_none : (met : List Bool) (xs : List ℕ) → met ≡ replicate 64 false → Passed met (length xs) (length xs - 0) xs
 unfolding is_in different all_below
-passed_none met n xs e =
-    let d = drop_all (length xs) xs (omega arith) in
+passed_none met xs e =
+    let d = drop_all (length xs - 0) xs (omega arith) in
     record {
       size = ap length e ∙ length-replicate 64 false;
       tells = λ v l. ap (λ m. get_or m v false) e ∙ (get_or-replicate 64 v false false l ∙ ap (is_in v) (sym d));
-      row = ap (none_twice n) d;
+      row = ap (none_twice (length xs)) d;
     }
 
-module _ (met : List Bool) (i : ℕ) (xs : List ℕ) (few : length xs ≤ 64) (some : 0 < i) (there : i ≤ length xs) (p : Passed met (length xs) i xs) where
-  abbrev here : ℕ
-  here = get_or xs (i - 1) 0
+-- x is the number that stands before the last n
+module _ (met : List Bool) (n x : ℕ) (xs : List ℕ) (few : length xs ≤ 64) (turn : (n < length (reverse xs)) × (x ≡ get_or (reverse xs) n x)) (p : Passed met (length xs) (length xs - n) xs) where
+  from_here : drop (length xs - (n + 1)) xs ≡ x ∷ drop (length xs - n) xs
+  from_here =
+      let some : n < length xs = omega (arith, length-reverse xs, turn.0) in
+      let e : length xs - 1 - n ≡ length xs - (n + 1) = omega arith in
+      let f : length xs - (n + 1) + 1 ≡ length xs - n = omega arith in
+      let here : get_or xs (length xs - (n + 1)) x ≡ x = sym (turn.1 ∙ (get_or-reverse xs n x some ∙ ap (λ i. get_or xs i x) e)) in
+      drop_more xs (length xs - (n + 1)) x (omega arith) ∙ (ap (λ j. get_or xs (length xs - (n + 1)) x ∷ drop j xs) f ∙ ap (λ y. y ∷ drop (length xs - n) xs) here)
 
-  from_here : drop (i - 1) xs ≡ here ∷ drop i xs
-  from_here = let e : i - 1 + 1 ≡ i = omega arith in drop_more xs (i - 1) 0 (omega arith) ∙ ap (λ j. here ∷ drop j xs) e
-
-  pub passed-more : here < length xs → get_or met here false ≡ false → Passed (set met here true) (length xs) (i - 1) xs
+  pub passed-more : x < length xs → get_or met x false ≡ false → Passed (set met x true) (length xs) (length xs - (n + 1)) xs
   passed-more l m =
       record {
-        size = length-set met here true ∙ p.size;
-        tells = rw from_here (met-more met here (drop i xs) (omega (arith, p.size)) p.tells);
-        row = rw from_here (row_more (length xs) here (drop i xs) p.row l (sym (p.tells here (omega arith)) ∙ m));
+        size = length-set met x true ∙ p.size;
+        tells = rw from_here (met-more met x (drop (length xs - n) xs) (omega (arith, p.size)) p.tells);
+        row = rw from_here (row_more (length xs) x (drop (length xs - n) xs) p.row l (sym (p.tells x (omega arith)) ∙ m));
       }
 
-  pub passed_high : length xs ≤ here → none_twice (length xs) xs ≡ false
-  passed_high l = row_fails (length xs) (i - 1) xs (ap (none_twice (length xs)) from_here ∙ row_past (length xs) here (drop i xs) l)
+  pub passed_high : length xs ≤ x → none_twice (length xs) xs ≡ false
+  passed_high l = row_fails (length xs) (length xs - (n + 1)) xs (ap (none_twice (length xs)) from_here ∙ row_past (length xs) x (drop (length xs - n) xs) l)
 
-  pub passed-twice : here < length xs → get_or met here false ≡ true → none_twice (length xs) xs ≡ false
+  pub passed-twice : x < length xs → get_or met x false ≡ true → none_twice (length xs) xs ≡ false
   passed-twice l m =
-      row_fails (length xs) (i - 1) xs (ap (none_twice (length xs)) from_here ∙ row_twice (length xs) here (drop i xs) (sym (p.tells here (omega arith)) ∙ m))
+      row_fails (length xs) (length xs - (n + 1)) xs (ap (none_twice (length xs)) from_here ∙ row_twice (length xs) x (drop (length xs - n) xs) (sym (p.tells x (omega arith)) ∙ m))
 
-pub passed-all : (met : List Bool) (n i : ℕ) (xs : List ℕ) → i ≤ 0 → Passed met n i xs → none_twice n xs ≡ true
-passed-all met n i xs h p = let z : i ≡ 0 = omega arith in rw z at p.row
+pub passed-all : (met : List Bool) (n : ℕ) (xs : List ℕ) → n ≡ length (reverse xs) → Passed met (length xs) (length xs - n) xs → none_twice (length xs) xs ≡ true
+passed-all met n xs h p = let z : length xs - n ≡ 0 = omega (arith, length-reverse xs) in rw z at p.row

@@ -2,7 +2,8 @@
 ghost use Rattle.std.specs.Prelude.{◌≡◌, ◌≤◌, true, take};
 ghost use Rattle.paths.specs.Plan.{different, all_below};
 
-// The first `count` numbers are the order; those after them mean nothing.
+// The first `count` numbers are the order; those after them mean nothing, so there is no derived `==`.
+// An array with a count, and no Vec: the rule of the project is that an order needs no heap.
 #[derive(Clone, Copy)]
 pub struct Order {
     pub numbers: [u8; 64],

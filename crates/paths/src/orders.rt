@@ -17,7 +17,7 @@ impl Order {
             return None;
         }
         let mut numbers = [0; 64];
-        put(&mut numbers, bytes);
+        numbers[..count].copy_from_slice(bytes);
         Some(Order {
             numbers,
             count: count as u8,
@@ -29,7 +29,7 @@ impl Order {
         ensures numbers { result.now ≡ order_of self.now }
         ensures count { length result.now ≡ self.now.count }
     {
-        &self.numbers[0..self.count as usize]
+        &self.numbers[..self.count as usize]
     }
 
     // The number of a path, if the path is there.
@@ -46,20 +46,12 @@ fn is_row(bytes: &[u8]) -> bool
     ensures { result ≡ none_twice (length bytes.now) bytes.now }
 {
     let mut met = [false; 64];
-    for i in (0..bytes.len()).rev() {
-        let number = bytes[i] as usize;
+    for byte in bytes.iter().rev() {
+        let number = *byte as usize;
         if number >= bytes.len() || met[number] {
             return false;
         }
         met[number] = true;
     }
     true
-}
-
-// Writes the bytes to the front.
-fn put(numbers: &mut [u8], bytes: &[u8])
-    requires { length bytes.now ≤ length numbers.old }
-    ensures { take (length bytes.now) numbers.new ≡ bytes.now }
-{
-    numbers[0..bytes.len()].copy_from_slice(bytes);
 }

@@ -6,8 +6,9 @@ ghost use Rattle.paths.specs.Pairing.{rank, nth};
 ghost use Rattle.paths.specs.Partners.{are_two, partner_of, paired_by, paired};
 
 use super::order::Order;
+use std::array;
 
-#[derive(Clone, Copy)]
+#[derive(Clone, Copy, Debug, PartialEq, Eq)]
 pub struct TwoPaths {
     pub first: u8,
     pub second: u8,
@@ -15,7 +16,7 @@ pub struct TwoPaths {
 
 // The partner of path `from.first` is `to.first`, that of `from.second` is `to.second`; the other paths have the other paths as partners, in rising
 // order.
-#[derive(Clone, Copy)]
+#[derive(Clone, Copy, Debug, PartialEq, Eq)]
 pub struct Partners {
     pub from: TwoPaths,
     pub to: TwoPaths,
@@ -33,9 +34,8 @@ impl TwoPaths {
     fn rank(self, path: u8) -> u8
         ensures { result ≡ rank self.first self.second path }
     {
-        let first = if self.first < path { 1 } else { 0 };
-        let second = if self.second < path { 1 } else { 0 };
-        path.saturating_sub(first).saturating_sub(second)
+        path.saturating_sub(u8::from(self.first < path))
+            .saturating_sub(u8::from(self.second < path))
     }
 
     // The path other than these two with so many such paths below it.
@@ -83,16 +83,13 @@ impl Order {
     }
 }
 
-// The numbers of the partners of paths 0, 1, ..
+// The numbers of the partners of paths 0, 1, .., and 0 where a path isn't there.
 fn partners_numbers(numbers: &[u8], partners: Partners) -> [u8; 64]
-    requires few { length numbers.now ≤ 64 }
-    requires from { are_two (length numbers.now) partners.from ≡ true }
-    requires to { are_two (length numbers.now) partners.to ≡ true }
+    requires { length numbers.now ≤ 64 }
     ensures { take (length numbers.now) result ≡ paired_by partners numbers.now }
 {
-    let mut theirs = [0; 64];
-    for path in 0..numbers.len() {
-        theirs[path] = numbers[partners.partner_of(path as u8) as usize];
-    }
-    theirs
+    array::from_fn(|path| {
+        let partner = partners.partner_of(path as u8);
+        numbers.get(partner as usize).copied().unwrap_or(0)
+    })
 }

@@ -1,11 +1,14 @@
 -- One turn of a loop that reads, as laws of what is left to read: one unit more, its fault, and the end.
-use Rattle.std.proofs.Common.{◌≡◌, ℕ, suc, ◌+◌, ◌-◌, ◌<◌, ◌≤◌, List, [], ◌∷◌, ◌++◌, map, drop, Ok, Err, Result, refl, append_assoc, append-nil, arith}
-use mathlib.Core.List.{map-append}
+use Rattle.std.proofs.Common.{◌≡◌, ℕ, zero, suc, ◌+◌, ◌-◌, ◌<◌, ◌≤◌, List, map, take, drop, Ok, Err, Result, Vec, vec_items, refl, ap, ◌∙◌, arith}
+use Rattle.std.specs.Prelude.{IfOk}
+use Rattle.std.specs.declared.alloc.Global.{Global}
+use Rattle.std.specs.Simd.{first_chunks}
+use Rattle.std.proofs.lemmas.List.{get_or-take}
 use Rattle.paths.specs.Plan.{Pair, Task}
 use Rattle.tasks.specs.declared.fault.Fault.{Fault}
 use Rattle.tasks.specs.declared.pair.Pair.{Pair as CodePair}
 use Rattle.tasks.specs.Pair.{pair_of}
-use Rattle.tasks.specs.Reading.{Got, Head, Looked, got, refused, ends, read_each, read_head, read_pairs, read_paths, read_plan_head, read_plan, pair_in, pairs_from, read_task, task_in, gives, looks}
+use Rattle.tasks.specs.Reading.{Got, Head, Looked, got, refused, ends, read_each, read_head, read_pairs, read_paths, read_plan_head, read_plan, pair_in, pairs_from, read_task, task_in, gives, looks, word_at}
 
 -- one more of m, where i are done
 left : (m i : ℕ) → i < m → m - i ≡ suc (m - (i + 1))
@@ -30,14 +33,27 @@ task_fault_lem bs h f e d = rw (← e, ← d) refl
 pub task-whole : (bs : List ℕ) (h : Head) (x : Looked) → got h ≡ read_head bs → got x ≡ read_pairs h.trains h.pairs (drop 6 bs) → got (task_in h (drop 6 bs)) ≡ read_task bs
 task-whole bs h x e d = rw (← e, ← d) refl
 
--- the pairs so far, and those that are left
-pub from_more : (m i : ℕ) (bs : List ℕ) (xs : List CodePair) (x : CodePair) → i < m → pair_of x ≡ pair_in bs → map pair_of xs ++ pairs_from (m - i) bs ≡ map pair_of (xs ++ (x ∷ [])) ++ pairs_from (m - (i + 1)) (drop 4 bs)
-unfolding pairs_from
-from_more m i bs xs x h e = rw (left m i h, ← e) (simp (map-append, append_assoc))
+-- a pair of the code, of four bytes
+abbrev pub code_pair : List ℕ → CodePair
+code_pair bs = record { first = word_at bs 0; second = word_at bs 2 }
 
-pub from_end : (m i : ℕ) (bs : List ℕ) (xs : List Pair) → m ≤ i → xs ++ pairs_from (m - i) bs ≡ xs
+made_of : (x : CodePair) (a e : ℕ) → x.first ≡ a → x.second ≡ e → x ≡ record { first = a; second = e }
+made_of x a e p q = rw (← p, ← q) refl
+
+pub as_code_pair : (x : CodePair) (bs : List ℕ) → pair_of x ≡ pair_in bs → x ≡ code_pair bs
+as_code_pair x bs e = made_of x _ _ (ap (λ (y : Pair). y.a) e) (ap (λ (y : Pair). y.e) e)
+
+-- the pairs of bytes that stand in fours
+pairs_in_fours : (m : ℕ) (bs : List ℕ) → map pair_of (map code_pair (first_chunks 4 m bs)) ≡ pairs_from m bs
 unfolding pairs_from
-from_end m i bs xs h = let z : m - i ≡ 0 = omega arith in rw z (append-nil xs)
+pairs_in_fours zero bs = refl
+pairs_in_fours (suc m) bs =
+    let e : pair_in (take 4 bs) ≡ pair_in bs = rw (get_or-take 4 bs 0 0 (omega arith), get_or-take 4 bs 1 0 (omega arith), get_or-take 4 bs 2 0 (omega arith), get_or-take 4 bs 3 0 (omega arith)) refl in
+    cc (e, pairs_in_fours m (drop 4 bs))
+
+pub pairs_collected : {E : Type 0} (m : ℕ) (bs : List ℕ) (r : Result (Vec CodePair Global) E) → IfOk r (λ v. vec_items v ≡ map code_pair (first_chunks 4 m bs)) → IfOk r (λ v. map pair_of (vec_items v) ≡ pairs_from m bs)
+pairs_collected m bs (Ok v) e = ap (map pair_of) e ∙ pairs_in_fours m bs
+pairs_collected m bs (Err f) e = tt
 
 pub plan-whole : (t : Task) (bs : List ℕ) (x : Looked) (r : Result Looked Fault) → got x ≡ read_plan_head t.trains bs → looks r ≡ read_paths t.paths t.trains (drop 3 bs) → gives (λ _. drop 3 bs) r ≡ read_plan t bs
 plan-whole t bs x (Ok y) e d = rw (← e, ← d) refl

@@ -1,5 +1,5 @@
 -- Reading and writing tasks are inverse, and a task that was read is sound.
-use Rattle.std.proofs.Common.{◌≡◌, ℕ, zero, suc, ◌+◌, ◌*◌, ◌<◌, ◌≤◌, Bool, true, eqb, ltb, leb, List, [], ◌∷◌, ◌++◌, length, take, drop, sym, refl, ap, ◌∙◌, inl, inr, arith, length-drop}
+use Rattle.std.proofs.Common.{◌≡◌, ℕ, zero, suc, ◌+◌, ◌*◌, ◌/◌, ◌<◌, ◌≤◌, Bool, true, eqb, ltb, leb, List, [], ◌∷◌, ◌++◌, length, take, drop, sym, refl, ap, ◌∙◌, inl, inr, arith, length-drop}
 use Rattle.std.specs.List.{flat_map}
 use Rattle.std.proofs.lemmas.Bool.{leb-true, ltb-true, eqb-true, and_parts, and_from, cases_lt, le-leb}
 use Rattle.std.proofs.lemmas.List.{get_or_append_left, drop-append-le, take-append-drop}
@@ -186,8 +186,8 @@ task-cuts t s j h =
 pub task_law : Inverse read_task task_bytes sound
 task_law = record { reads = task-reads; only = task-only; cuts = task-cuts }
 
-pub count_fits : (bs : List ℕ) (h : Head) → got (task_in h (drop 6 bs)) ≡ read_task bs → 4 * h.pairs ≤ length (drop 6 bs)
-count_fits bs h e = omega (arith, task-length bs (task_in h (drop 6 bs)) (sym e), length_from h.pairs (drop 6 bs))
+count_of : (bs : List ℕ) (h : Head) → got (task_in h (drop 6 bs)) ≡ read_task bs → length (drop 6 bs) / 4 ≡ h.pairs
+count_of bs h e = omega (arith, task-length bs (task_in h (drop 6 bs)) (sym e), length_from h.pairs (drop 6 bs), length-drop 6 bs)
 
 -- what a sound task guarantees, one by one
 pub record Guarantees (t : Task) : Type 0 where
@@ -226,5 +226,5 @@ sound_from t g =
     g.rises
 
 -- the task that is kept is the one that was read
-pub task-kept : (bs : List ℕ) (h : Head) (xs : List Pair) → got (task_in h (drop 6 bs)) ≡ read_task bs → xs ≡ pairs_from h.pairs (drop 6 bs) → got record { trains = h.trains; paths = h.paths; pairs = xs } ≡ read_task bs
-task-kept bs h xs e k = ap (λ ys. got record { trains = h.trains; paths = h.paths; pairs = ys }) k ∙ e
+pub task-kept : (bs : List ℕ) (h : Head) (xs : List Pair) → got (task_in h (drop 6 bs)) ≡ read_task bs → xs ≡ pairs_from (length (drop 6 bs) / 4) (drop 6 bs) → got record { trains = h.trains; paths = h.paths; pairs = xs } ≡ read_task bs
+task-kept bs h xs e k = ap (λ ys. got record { trains = h.trains; paths = h.paths; pairs = ys }) (k ∙ ap (λ m. pairs_from m (drop 6 bs)) (count_of bs h e)) ∙ e

@@ -7,14 +7,14 @@ use std::alloc::{AllocError, AllocFailed};
 use std::fmt;
 
 // The first pair that a plan fails: its number, and its two trains, which have one path.
-#[derive(Clone, Copy)]
+#[derive(Clone, Copy, Debug, PartialEq, Eq)]
 pub struct Unfit {
     pub pair: u16,
     pub first: u16,
     pub second: u16,
 }
 
-#[derive(Clone, Copy)]
+#[derive(Clone, Copy, Debug, PartialEq, Eq)]
 pub enum Fault {
     Shape,
     Range,
@@ -84,6 +84,7 @@ impl fmt::Display for Fault {
     }
 }
 
+// This one and the next stand by hand, since `from_gives` says which fault it is.
 impl From<AllocError> for Fault {
     ghost from_gives = { λ _ f. f ≡ Memory };
 

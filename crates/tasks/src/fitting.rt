@@ -13,6 +13,7 @@ use super::task::Task;
 pub fn first_unfit(task: &Task, plan: &Plan) -> Option<Unfit>
     ensures { FirstUnfit (task_of task.now) (plan_of plan.now) result }
 {
+    // A loop left by a label, and no `position`: a rule of the project keeps this form here.
     let mut found = None;
     'pairs: for (i, pair) in task.pairs.iter().enumerate() {
         if fails(plan, *pair) {
@@ -37,8 +38,5 @@ fn fails(plan: &Plan, pair: Pair) -> bool
 pub fn path_of(plan: &Plan, train: u16) -> u8
     ensures { result ≡ at (plan_of plan.now) train }
 {
-    match plan.paths.get(train as usize) {
-        Some(path) => *path,
-        None => 0,
-    }
+    plan.paths.get(train as usize).copied().unwrap_or(0)
 }

@@ -1,5 +1,5 @@
 // Tasks and plans read from bytes. All is looked at before anything is kept, so that each fault is told by its number even where memory is wanting.
-ghost use Rattle.std.specs.Prelude.{◌≡◌, ℕ, ◌+◌, ◌*◌, ◌≤◌, map, length, drop, IfOk};
+ghost use Rattle.std.specs.Prelude.{◌≡◌, ℕ, ◌+◌, ◌*◌, ◌/◌, ◌≤◌, map, length, drop, IfOk};
 ghost use Rattle.tasks.specs.Model.{task_of, plan_of};
 ghost use Rattle.tasks.specs.Pair.{pair_of};
 ghost use Rattle.tasks.specs.Head.{head_of};
@@ -8,51 +8,49 @@ ghost use Rattle.tasks.specs.Task.{sound};
 ghost use Rattle.tasks.specs.Writing.{Inverse, task_bytes, plan_bytes, is_plan};
 
 use super::fault::Fault;
+use super::kind::Kind;
 use super::pair::Pair;
 use super::plan::Plan;
-use super::task::Task;
+use super::task::{MOST_PAIRS, MOST_PATHS, MOST_TRAINS, Task};
 use std::alloc::{AllocError, Global};
 
 // The numbers before the pairs of a task.
-#[derive(Clone, Copy)]
+#[derive(Clone, Copy, Debug, PartialEq, Eq)]
 pub struct Head {
     pub trains: u16,
     pub paths: u8,
     pub pairs: u16,
 }
 
-fn word(high: u8, low: u8) -> u16
-    ensures { result ≡ high * 256 + low }
-{
-    u16::from_be_bytes([high, low])
-}
-
 // The numbers at the front of a task, or the first fault; what stands after them is not looked at.
 pub fn read_head(bytes: &[u8]) -> Result<Head, Fault>
     ensures { gives head_of result ≡ read_head bytes.now }
 {
-    let [1, ..] = bytes else {
+    let [kind, ..] = bytes else {
         return Err(Fault::Shape);
     };
-    let [_, a, b, ..] = bytes else {
+    if *kind != Kind::Task.byte() {
+        return Err(Fault::Shape);
+    }
+    let [_, high, low, ..] = bytes else {
         return Err(Fault::Shape);
     };
-    let trains = word(*a, *b);
-    if trains < 1 || trains > 1024 {
+    let trains = u16::from_be_bytes([*high, *low]);
+    if trains < 1 || trains > MOST_TRAINS {
         return Err(Fault::Range);
     }
     let [_, _, _, paths, ..] = bytes else {
         return Err(Fault::Shape);
     };
     let paths = *paths;
-    if paths < 1 || paths > 64 {
+    if paths < 1 || paths > MOST_PATHS {
         return Err(Fault::Range);
     }
-    let [_, _, _, _, a, b, ..] = bytes else {
+    let [_, _, _, _, high, low, ..] = bytes else {
         return Err(Fault::Shape);
     };
-    let pairs = word(*a, *b);
-    if pairs < 1 || pairs > 4096 {
+    let pairs = u16::from_be_bytes([*high, *low]);
+    if pairs < 1 || pairs > MOST_PAIRS {
         return Err(Fault::Range);
     }
     Ok(Head {
@@ -62,30 +60,32 @@ pub fn read_head(bytes: &[u8]) -> Result<Head, Fault>
     })
 }
 
-fn pair_in(bytes: &[u8]) -> Pair
-    requires { 4 ≤ length bytes.now }
-    ensures { pair_of result ≡ pair_in bytes.now }
+fn pair_in(bytes: [u8; 4]) -> Pair
+    ensures { pair_of result ≡ pair_in bytes }
 {
+    let [a, b, c, d] = bytes;
     Pair {
-        first: word(bytes[0], bytes[1]),
-        second: word(bytes[2], bytes[3]),
+        first: u16::from_be_bytes([a, b]),
+        second: u16::from_be_bytes([c, d]),
     }
 }
 
-fn read_pair(trains: u16, last: Pair, bytes: &[u8]) -> Result<Pair, Fault>
-    ensures { gives pair_of result ≡ read_pair trains (pair_of last) bytes.now }
+// A pair, and what stands after it.
+fn read_pair(trains: u16, last: Pair, bytes: &[u8]) -> Result<(Pair, &[u8]), Fault>
+    ensures pair { gives (λ p. pair_of p.0) result ≡ read_pair trains (pair_of last) bytes.now }
+    ensures rest { IfOk result (λ p. p.1.now ≡ drop 4 bytes.now) }
 {
-    let [_, _, _, _, ..] = bytes else {
+    let [a, b, c, d, rest @ ..] = bytes else {
         return Err(Fault::Shape);
     };
-    let pair = pair_in(bytes);
+    let pair = pair_in([*a, *b, *c, *d]);
     if pair.first >= trains || pair.second >= trains {
         return Err(Fault::Range);
     }
     if pair.first >= pair.second || !last.before(pair) {
         return Err(Fault::Order);
     }
-    Ok(pair)
+    Ok((pair, rest))
 }
 
 fn check_pairs(head: Head, bytes: &[u8]) -> Result<(), Fault>
@@ -96,9 +96,8 @@ fn check_pairs(head: Head, bytes: &[u8]) -> Result<(), Fault>
         first: 0,
         second: 0,
     };
-    for _i in 0..head.pairs {
-        last = read_pair(head.trains, last, rest)?;
-        rest = &rest[4..];
+    for _ in 0..head.pairs {
+        (last, rest) = read_pair(head.trains, last, rest)?;
     }
     end(rest)
 }
@@ -123,38 +122,33 @@ pub fn check_task(bytes: &[u8]) -> Result<Head, Fault>
 }
 
 // The pairs as they stand in bytes that were looked at.
-fn collect_pairs(heap: Global, count: u16, bytes: &[u8]) -> Result<Vec<Pair>, AllocError>
-    requires { 4 * count ≤ length bytes.now }
-    ensures { IfOk result (λ v. map pair_of v.items ≡ pairs_from count bytes.now) }
+fn collect_pairs(heap: Global, bytes: &[u8]) -> Result<Vec<Pair>, AllocError>
+    ensures { IfOk result (λ v. map pair_of v.items ≡ pairs_from (length bytes.now / 4) bytes.now) }
 {
-    let mut pairs = Vec::with_capacity(heap, count as usize)?;
-    let mut rest = bytes;
-    for _i in 0..count {
-        pairs.push(pair_in(rest))?;
-        rest = &rest[4..];
-    }
-    Ok(pairs)
+    let (units, _) = bytes.as_chunks::<4>();
+    units.iter().map(|unit| pair_in(*unit)).collect(heap)
 }
 
-fn check_path(paths: u8, bytes: &[u8]) -> Result<(), Fault>
-    ensures { looks result ≡ read_path paths tt bytes.now }
+// What stands after a path.
+fn check_path(paths: u8, bytes: &[u8]) -> Result<&[u8], Fault>
+    ensures path { gives (λ _. tt) result ≡ read_path paths tt bytes.now }
+    ensures rest { IfOk result (λ rest. rest.now ≡ drop 1 bytes.now) }
 {
-    let [path, ..] = bytes else {
+    let [path, rest @ ..] = bytes else {
         return Err(Fault::Shape);
     };
     if *path >= paths {
         return Err(Fault::Range);
     }
-    Ok(())
+    Ok(rest)
 }
 
 fn check_paths(task: &Task, bytes: &[u8]) -> Result<(), Fault>
     ensures { looks result ≡ read_paths task.now.paths task.now.trains bytes.now }
 {
     let mut rest = bytes;
-    for _i in 0..task.trains {
-        check_path(task.paths, rest)?;
-        rest = &rest[1..];
+    for _ in 0..task.trains {
+        rest = check_path(task.paths, rest)?;
     }
     end(rest)
 }
@@ -162,13 +156,16 @@ fn check_paths(task: &Task, bytes: &[u8]) -> Result<(), Fault>
 fn check_plan_head(trains: u16, bytes: &[u8]) -> Result<(), Fault>
     ensures { looks result ≡ read_plan_head trains bytes.now }
 {
-    let [2, ..] = bytes else {
+    let [kind, ..] = bytes else {
         return Err(Fault::Shape);
     };
-    let [_, a, b, ..] = bytes else {
+    if *kind != Kind::Plan.byte() {
+        return Err(Fault::Shape);
+    }
+    let [_, high, low, ..] = bytes else {
         return Err(Fault::Shape);
     };
-    if word(*a, *b) != trains {
+    if u16::from_be_bytes([*high, *low]) != trains {
         return Err(Fault::Shape);
     }
     Ok(())
@@ -190,7 +187,7 @@ pub fn read_task(heap: Global, bytes: &[u8]) -> Result<Task, Fault>
     ensures front { Sees 16390 read_task }
 {
     let head = check_task(bytes)?;
-    let pairs = collect_pairs(heap, head.pairs, &bytes[6..])?;
+    let pairs = collect_pairs(heap, &bytes[6..])?;
     Ok(Task {
         trains: head.trains,
         paths: head.paths,

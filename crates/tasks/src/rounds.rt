@@ -8,7 +8,7 @@ use super::fault::Fault;
 pub const MOST_ROUNDS: u32 = 16777216;
 
 // At most 2^24; none is allowed.
-#[derive(Clone, Copy)]
+#[derive(Clone, Copy, Debug, PartialEq, Eq)]
 pub struct Rounds {
     pub count: u32,
     ghost few: { count ≤ 2 ^ 24 },
@@ -19,7 +19,7 @@ impl Rounds {
     pub fn new(count: u64) -> Result<Rounds, Fault>
         ensures { gives (λ (n : Rounds). n.count) result ≡ asked_rounds count }
     {
-        if count > 16777216 {
+        if count > u64::from(MOST_ROUNDS) {
             return Err(Fault::TooManyRounds);
         }
         Ok(Rounds {

@@ -6,17 +6,19 @@ ghost use Rattle.tasks.specs.declared.fault.Fault.TheVariants.{Memory};
 ghost use Rattle.tasks.specs.Writing.{head_bytes, pair_bytes, task_bytes, plan_bytes};
 
 use super::fault::Fault;
+use super::kind::Kind;
 use super::pair::Pair;
 use super::plan::Plan;
+use super::reading::Head;
 use super::task::Task;
 use std::alloc::Global;
 
-fn head_bytes(trains: u16, paths: u8, pairs: u16) -> [u8; 6]
-    ensures { result ≡ head_bytes trains paths pairs }
+fn head_bytes(head: Head) -> [u8; 6]
+    ensures { result ≡ head_bytes head.trains head.paths head.pairs }
 {
-    let [a, b] = trains.to_be_bytes();
-    let [c, d] = pairs.to_be_bytes();
-    [1, a, b, paths, c, d]
+    let [a, b] = head.trains.to_be_bytes();
+    let [c, d] = head.pairs.to_be_bytes();
+    [Kind::Task.byte(), a, b, head.paths, c, d]
 }
 
 fn pair_bytes(pair: Pair) -> [u8; 4]
@@ -31,7 +33,11 @@ fn pair_bytes(pair: Pair) -> [u8; 4]
 pub fn write_task(heap: Global, task: &Task) -> Result<Vec<u8>, Fault>
     ensures { MatchResult result (λ v. v.items ≡ task_bytes (task_of task.now)) (λ f. f ≡ Memory) }
 {
-    let head = head_bytes(task.trains, task.paths, task.pairs.len() as u16);
+    let head = head_bytes(Head {
+        trains: task.trains,
+        paths: task.paths,
+        pairs: task.pairs.len() as u16,
+    });
     let mut bytes = Vec::from_slice(heap, &head)?;
     for pair in task.pairs.iter() {
         bytes.extend_from_slice(&pair_bytes(*pair))?;
@@ -44,7 +50,7 @@ pub fn write_plan(heap: Global, plan: &Plan) -> Result<Vec<u8>, Fault>
     ensures { MatchResult result (λ v. v.items ≡ plan_bytes (plan_of plan.now)) (λ f. f ≡ Memory) }
 {
     let mut bytes = Vec::new(heap);
-    bytes.push(2)?;
+    bytes.push(Kind::Plan.byte())?;
     bytes.extend_from_slice(&(plan.paths.len() as u16).to_be_bytes())?;
     bytes.extend_from_slice(plan.paths.as_slice())?;
     Ok(bytes)

@@ -1,12 +1,10 @@
-use Rattle.std.proofs.Common.{sym, ◌∙◌}
-use Rattle.fitting.proofs.Belows.{below_more, below_fails, below_end}
+use Rattle.std.proofs.Common.{rules, tests, ltb, ◌∙◌}
+use Rattle.std.proofs.lemmas.Iterator.{YieldsList-from_slice}
+use Rattle.std.proofs.lemmas.Iterator.Search.{all_from_yields_List}
+use Rattle.fitting.proofs.Belows.{all_below_is}
 use Rattle.fitting.proofs.testing.all_below.Goals as goal
 
-pub loop-path-preserved : goal.loop-path-preserved
-loop-path-preserved c = sym (below_more _ _ _ c.loop-path-test.true c.if-path-count.false) ∙ c.loop-path.invariant
-
-pub returns-then-path-count : goal.returns-then-path-count
-returns-then-path-count c = sym (below_fails _ _ _ c.loop-path-test.true c.if-path-count.true) ∙ c.loop-path.invariant
-
 pub returns : goal.returns
-returns c = sym (below_end _ _ _ c.loop-path-test.false) ∙ c.loop-path.invariant
+returns c =
+    all_from_yields_List (λ x. ltb x c.args.count) _ _ _ c.all.ensures.ran (YieldsList-from_slice c.args.paths.now cc) (λ x b q k. search (rules, tests))
+    ∙ all_below_is c.args.count c.args.paths.now

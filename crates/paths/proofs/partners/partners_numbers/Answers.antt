@@ -1,17 +1,9 @@
-use Rattle.std.proofs.Common.{refl, ap, ◌∙◌, arith}
-use Rattle.std.proofs.lemmas.List.{length-set}
+use Rattle.std.proofs.Common.{rules}
 use Rattle.paths.specs.Plan.{at}
-use Rattle.paths.specs.Cheat.{up_to}
-use Rattle.paths.proofs.Partnered.{made_more, made_all}
+use Rattle.paths.specs.Partners.{partner_of}
+use Rattle.paths.proofs.Partnered.{made}
 use Rattle.paths.proofs.partners.partners_numbers.Goals as goal
 
-pub loop-path-init : goal.loop-path-init
-unfolding up_to
-loop-path-init c = (refl, refl)
-
-pub loop-path-preserved : goal.loop-path-preserved
-loop-path-preserved c =
-    (length-set c.loop-path.theirs _ _ ∙ c.loop-path.invariant.0, made_more _ c.loop-path.theirs _ c.loop-path.invariant.1 _ (omega arith) (ap (at c.args.numbers.now) c.partner_of.ensures))
-
 pub returns : goal.returns
-returns c = made_all _ c.loop-path.theirs _ c.loop-path.invariant.1 _ c.loop-path.auto.path-end c.loop-path-test.false
+returns c =
+    made _ _ (λ x. at c.args.numbers.now (partner_of c.args.partners x)) _ 64 (λ i y q l k. search rules) c.from_fn.ensures.items _ c.requires

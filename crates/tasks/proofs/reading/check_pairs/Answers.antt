@@ -1,19 +1,18 @@
 use Rattle.std.proofs.Common.{sym, ◌∙◌}
-use Rattle.std.proofs.lemmas.List.{take_rest}
 use Rattle.std.proofs.lemmas.Result.{err_from_is_err_and}
 use Rattle.tasks.proofs.Steps.{each_more, each-fault, each-end}
 use Rattle.tasks.proofs.reading.check_pairs.Goals as goal
 
-pub loop-i-preserved : goal.loop-i-preserved
-loop-i-preserved c =
-    let e = each_more _ _ _ _ _ _ _ c.loop-i-test.true c.in_ok-last.ensures in
-    rw take_rest (sym e ∙ c.loop-i.invariant)
+pub loop-preserved : goal.loop-preserved
+loop-preserved c =
+    let e = each_more _ _ _ _ _ _ _ c.loop-test.true c.in_ok-last.ensures.pair in
+    rw c.in_ok-last.ensures.rest (sym e ∙ c.loop.invariant)
 
 pub returns-in_err-last : goal.returns-in_err-last
 returns-in_err-last c =
     let p = err_from_is_err_and c.from_residual.result c.from_residual.ensures.1 in
-    let e = each-fault _ _ _ _ _ _ _ c.loop-i-test.true c.in_err-last.ensures in
-    rw (p.1, p.2) (sym e ∙ c.loop-i.invariant)
+    let e = each-fault _ _ _ _ _ _ _ c.loop-test.true c.in_err-last.ensures.pair in
+    rw (p.1, p.2) (sym e ∙ c.loop.invariant)
 
 pub returns : goal.returns
-returns c = let e = each-end _ _ _ _ _ _ c.loop-i-test.false in c.end.ensures ∙ (sym e ∙ c.loop-i.invariant)
+returns c = let e = each-end _ _ _ _ _ _ c.loop-test.false in c.end.ensures ∙ (sym e ∙ c.loop.invariant)

@@ -3,6 +3,6 @@ use Rattle.std.proofs.Common.{◌≡◌, ◌-◌}
 use Rattle.tasks.specs.Reading.{read_each, read_path, read_paths}
 use Rattle.tasks.proofs.reading.check_paths.Given as goal
 
-abbrev pub invariant-loop-i : goal.invariant-loop-i
-invariant-loop-i l =
-    read_each (read_path l.task.paths) 1 tt (l.task.trains - l._i) l.rest ≡ read_paths l.task.paths l.task.trains l.bytes
+abbrev pub invariant-loop : goal.invariant-loop
+invariant-loop l =
+    read_each (read_path l.task.paths) 1 tt (l.task.trains - l.counter) l.rest ≡ read_paths l.task.paths l.task.trains l.bytes

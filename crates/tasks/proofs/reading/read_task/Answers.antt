@@ -4,7 +4,7 @@ use Rattle.std.proofs.lemmas.List.{take_rest}
 use Rattle.std.proofs.lemmas.Result.{err_from_is_err_and}
 use Rattle.tasks.specs.Head.{head_of}
 use Rattle.tasks.specs.Pair.{pair_of}
-use Rattle.tasks.proofs.TaskLaws.{task_law, task-sound, task-kept, count_fits, guarantees}
+use Rattle.tasks.proofs.TaskLaws.{task_law, task-sound, task-kept, guarantees}
 use Rattle.tasks.proofs.Fronts.{task_front}
 use Rattle.tasks.proofs.Words.{bytes_below}
 use Rattle.tasks.proofs.reading.read_task.Goals as goal
@@ -13,9 +13,6 @@ pub returns-in_err-head : goal.returns-in_err-head
 returns-in_err-head c =
     let p = err_from_is_err_and c.from_residual.result c.from_residual.ensures.1 in
     rw (p.1, p.2) (record { answer = inl c.in_err-head.ensures; written = tt; law = task_law; front = task_front })
-
-pub collect_pairs-requires : goal.collect_pairs-requires
-collect_pairs-requires c = rw take_rest (count_fits c.args.bytes.now (head_of c.in_ok-head.head) c.in_ok-head.ensures)
 
 pub returns-in_err-pairs : goal.returns-in_err-pairs
 returns-in_err-pairs c =

@@ -1,4 +1,4 @@
-use Rattle.std.proofs.Common.{length, sym, ap, arith}
+use Rattle.std.proofs.Common.{◌++◌, length, drop, length-take, sym, ap, arith}
 use Rattle.std.proofs.lemmas.Result.{err_from_is_err_and}
 use Rattle.pairing.specs.Coins.{left_by}
 use Rattle.pairing.specs.Plans.{both_of}
@@ -13,16 +13,27 @@ returns-in_err-order c =
     let e = coin_refused (both_of s) c.args.question c.args.coin.now _ c.in_err-order.ensures in
     rw (p.1, p.2) (record { answer = sym e; left = sym (ap (λ g. left_by g c.args.coin.now) e); coin = tt; promise = promised s })
 
-pub put-requires : goal.put-requires
-put-requires c =
+pub slice_bounds-copy_from_slice-end : goal.slice_bounds-copy_from_slice-end
+slice_bounds-copy_from_slice-end c =
     let l = order_room (both_of c.args.self.now) c.args.question c.args.coin.now _ c.in_ok-order.ensures in
-    omega (arith, ap length c.as_slice.ensures.numbers)
+    omega (arith, ap length c.as_slice-numbers.ensures.numbers)
+
+pub slice_bounds-copy_from_slice-end-2 : goal.slice_bounds-copy_from_slice-end-2
+slice_bounds-copy_from_slice-end-2 c =
+    let l = order_room (both_of c.args.self.now) c.args.question c.args.coin.now _ c.in_ok-order.ensures in
+    simp length-take (omega (arith, ap length c.as_slice-numbers.ensures.numbers))
+
+pub copy_from_slice-requires : goal.copy_from_slice-requires
+copy_from_slice-requires c =
+    let l = order_room (both_of c.args.self.now) c.args.question c.args.coin.now _ c.in_ok-order.ensures in
+    simp length-take (omega (arith, ap length c.as_slice-numbers.ensures.numbers))
 
 pub returns : goal.returns
 returns c =
     let s = c.args.self.now in
     let bs = c.args.coin.now in
     let o = c.in_ok-order.ensures in
-    let e = coin_made (both_of s) c.args.question bs _ _ _ o c.as_slice.ensures.numbers c.put.ensures in
+    let numbers = c.as_slice-numbers.result.now in
+    let e = coin_made (both_of s) c.args.question bs _ numbers _ o c.as_slice-numbers.ensures.numbers (ap (λ zs. zs ++ drop (length numbers) bs) c.copy_from_slice.ensures.after) in
     let g = coin_goes (both_of s) c.args.question bs _ _ c.type_inv.coin o e in
     record { answer = sym e; left = sym (ap (λ g. left_by g bs) e); coin = g; promise = promised s }
