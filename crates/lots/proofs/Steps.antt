@@ -1,12 +1,13 @@
 -- The steps of drawing: a value is used, passed over, or not all there; and an exchange before those that are left. Assumes nothing.
-use Rattle.std.proofs.Common.{◌≡◌, ℕ, zero, suc, ◌+◌, ◌-◌, ◌*◌, ◌%◌, ◌^◌, ◌<◌, ◌≤◌, Bool, true, false, cond, ltb, leb, List, [], ◌∷◌, ◌++◌, length, take, drop, set, None, Option, sym, refl, ap, ◌∙◌, subst, le_trans, add_assoc, add-one, arith, lit≤, length-drop}
+use Rattle.std.proofs.Common.{◌≡◌, ℕ, zero, suc, ◌+◌, ◌-◌, ◌*◌, ◌%◌, ◌^◌, ◌<◌, ◌≤◌, Bool, true, false, cond, ltb, leb, List, [], ◌∷◌, ◌++◌, length, take, drop, set, None, Option, sym, refl, ap, ◌∙◌, subst, le_trans, add_assoc, add-one, arith, lit≤}
 use Rattle.std.proofs.lemmas.List.{drop_more, drop-drop, take_more_set}
 use Rattle.std.proofs.lemmas.Bool.{lt-ltb, le-ltb, le-leb, leb-true, and_from}
-use Rattle.paths.specs.Plan.{Task, at, all_below, different}
+use Rattle.paths.specs.Plan.{at, all_below, different}
 use Rattle.paths.specs.Order.{is_order, order_of as codeOrder}
 use Rattle.paths.specs.declared.order.Order.{Order}
 use Rattle.std.specs.Option.{option_map}
 use Rattle.std.specs.Bool.{then_some}
+use Rattle.std.specs.Int.{w32, from_be_bytes}
 use Rattle.paths.specs.Cheat.{up_to}
 use Rattle.drawing.specs.Drawing.{limit, Drawn, drew, short, more, onto, and_then, draw, values_of, exchange, exchanges, order_moduli, order_of}
 use Rattle.drawing.specs.Uniform.{IsOrder}
@@ -17,8 +18,8 @@ use Rattle.drawing.proofs.Exchanges.{length-up_to}
 use Rattle.drawing.proofs.Orders.{order_is}
 use Rattle.tasks.specs.Reading as reading
 use Rattle.tasks.specs.Reading.{Got, got, refused}
-use Rattle.lots.specs.Lots.{on_bytes, drawn, Had, had_by, number_in, exchanged_in, order_in, Lot, chances_in, lot_in}
-use Rattle.lots.specs.Views.{value_at, chances_end}
+use Rattle.lots.specs.Lots.{on_bytes, drawn, Had, had_by, number_in, exchanged_in, order_in, Lot, chances_in}
+use Rattle.lots.specs.Views.{value_at, EndOf}
 use Rattle.lots.proofs.Draws.{OfDrawn, drawn-none, drawn-short, drawn-four, drawn-long, bytes-in_turn}
 
 four-at : (bs : List ℕ) (i : ℕ) → i + 4 ≤ length bs → drop i bs ≡ at bs i ∷ at bs (i + 1) ∷ at bs (i + 2) ∷ at bs (i + 3) ∷ drop (i + 4) bs
@@ -32,22 +33,47 @@ four-at bs i l =
     let g = add_assoc i 3 1 in
     cc
 
+pub value_read : (bs : List ℕ) → 4 ≤ length bs → from_be_bytes w32 (take 4 bs) ≡ value_at bs 0
+value_read (a ∷ b ∷ c ∷ d ∷ bs) l = omega arith
+value_read [] l = absurd (omega arith)
+value_read (a ∷ []) l = absurd (omega arith)
+value_read (a ∷ b ∷ []) l = absurd (omega arith)
+value_read (a ∷ b ∷ c ∷ []) l = absurd (omega arith)
+
 module _ (s : ℕ) (bs : List ℕ) (i : ℕ) where
   four-drawn : i + 4 ≤ length bs →
       drawn (s ∷ []) (drop i bs) ≡ cond (ltb (value_at bs i) (limit (2 ^ 32) s)) (more (value_at bs i % s) (drawn [] (drop (i + 4) bs))) (drawn (s ∷ []) (drop (i + 4) bs))
   four-drawn l = ap (drawn (s ∷ [])) (four-at bs i l) ∙ drawn-four s [] (at bs i) (at bs (i + 1)) (at bs (i + 2)) (at bs (i + 3)) (drop (i + 4) bs)
 
-  pub number_used : i + 4 ≤ length bs → value_at bs i < limit (2 ^ 32) s → number_in s (drop i bs) ≡ got record { what = value_at bs i % s; left = drop (i + 4) bs }
+  number_used : i + 4 ≤ length bs → value_at bs i < limit (2 ^ 32) s → number_in s (drop i bs) ≡ got record { what = value_at bs i % s; left = drop (i + 4) bs }
   number_used l u =
       ap (had_by (λ ds. at ds 0)) (four-drawn l ∙ ap (λ t. cond t (more (value_at bs i % s) (drawn [] (drop (i + 4) bs))) (drawn (s ∷ []) (drop (i + 4) bs))) (lt-ltb _ _ u)
       ∙ ap (more (value_at bs i % s)) (drawn-none (drop (i + 4) bs)))
 
-  pub number-over : i + 4 ≤ length bs → limit (2 ^ 32) s ≤ value_at bs i → number_in s (drop i bs) ≡ number_in s (drop (i + 4) bs)
+  number-over : i + 4 ≤ length bs → limit (2 ^ 32) s ≤ value_at bs i → number_in s (drop i bs) ≡ number_in s (drop (i + 4) bs)
   number-over l u =
       ap (had_by (λ ds. at ds 0)) (four-drawn l ∙ ap (λ t. cond t (more (value_at bs i % s) (drawn [] (drop (i + 4) bs))) (drawn (s ∷ []) (drop (i + 4) bs))) (le-ltb _ _ u))
 
-  pub number-none : length bs < i + 4 → number_in s (drop i bs) ≡ refused 11
-  number-none l = ap (had_by (λ ds. at ds 0)) (drawn-short s [] (drop i bs) (simp length-drop (omega arith)))
+-- the next four bytes, used or passed over; and fewer than four
+module _ (s : ℕ) (bs four left : List ℕ) (v : ℕ) (f : four ≡ take 4 bs) (l : left ≡ drop 4 bs) (n : 4 ≤ length bs) (e : v ≡ from_be_bytes w32 four) where
+  value : v ≡ value_at bs 0
+  value = e ∙ ap (from_be_bytes w32) f ∙ value_read bs n
+
+  pub four_used : v < limit (2 ^ 32) s → got record { what = v % s; left = left } ≡ number_in s bs
+  four_used u = rw (value, l) (sym (number_used s bs 0 n (subst (λ x. x < limit (2 ^ 32) s) value u)))
+
+  pub four-over : limit (2 ^ 32) s ≤ v → number_in s left ≡ number_in s bs
+  four-over u = rw l (sym (number-over s bs 0 n (subst (λ x. limit (2 ^ 32) s ≤ x) value u)))
+
+pub number-none : (s : ℕ) (bs : List ℕ) → length bs < 4 → number_in s bs ≡ refused 11
+number-none s bs l = ap (had_by (λ ds. at ds 0)) (drawn-short s [] bs l)
+
+-- the last of the last of the bytes
+pub end_more : (n : ℕ) (bs rest left : List ℕ) → EndOf bs rest → left ≡ drop n rest → EndOf bs left
+end_more n bs rest left (k, e) f = (k + n, f ∙ ap (drop n) e ∙ drop-drop n k bs)
+
+pub end_end : (bs rest left : List ℕ) → EndOf bs rest → EndOf rest left → EndOf bs left
+end_end bs rest left e (n, f) = end_more n bs rest left e f
 
 -- what is read after numbers that were drawn before
 pub had_onto : {A : Type 0} (read : List ℕ → A) (ds : List ℕ) (r : Drawn) → had_by read (onto ds r) ≡ had_by (λ es. read (ds ++ es)) r
@@ -133,38 +159,6 @@ order_made k up row left bs r l m u e n o =
     let i : is_order row ≡ true = simp w (and_from _ _ (and_from _ _ (le-leb 1 k l) (le-leb k 64 m)) (and_from _ _ (is_true (different row) h.1) (is_true (all_below k row) h.2))) in
     let z : ◌≡◌ {A = ℕ} 0 1 = cc in
     omega arith
-
--- where the chances end
-pub end_had : (n : ℕ) (bs : List ℕ) (start end : ℕ) → got end ≡ chances_end n bs start → (end ≡ start + 32 * n) × (32 * n ≤ length bs - start)
-end_had n bs start end = go (leb (32 * n) (length bs - start)) refl
-  where
-    go : (enough : Bool) → leb (32 * n) (length bs - start) ≡ enough → got end ≡ cond enough (got (start + 32 * n)) (refused 11) → (end ≡ start + 32 * n) × (32 * n ≤ length bs - start)
-    go true l e = (cc, leb-true _ _ l)
-    go false l e = let z : ◌≡◌ {A = ℕ} 0 1 = cc in absurd (omega arith)
-
--- the chances after the order
-module _ (t : Task) (bs order : List ℕ) (start : ℕ) (h : got record { what = order; left = drop start bs } ≡ order_in t.paths bs) where
-  lot_from : chances_in t.trains order (drop start bs) ≡ lot_in t bs
-  lot_from = ap (λ g. reading.and_then g (λ o. chances_in t.trains o.what o.left)) h
-
-  pub lot_had : (end : ℕ) → got end ≡ chances_end t.trains bs start →
-      got record { what = record { order = order; chances = take (end - start) (drop start bs) }; left = drop end bs } ≡ lot_in t bs
-  lot_had end e =
-      let p = end_had t.trains bs start end e in
-      let q : end - start ≡ 32 * t.trains = omega (arith, p.0) in
-      let f = drop-drop (32 * t.trains) start bs in
-      let g = le-leb (32 * t.trains) (length (drop start bs)) (simp length-drop p.1) in
-      rw (q, p.0, ← f) (sym (ap (λ enough. cond enough (got record { what = record { order = order; chances = take (32 * t.trains) (drop start bs) }; left = drop (32 * t.trains) (drop start bs) }) (refused 11)) g) ∙ lot_from)
-
-  pub lot-refused : (f : ℕ) → refused f ≡ chances_end t.trains bs start → refused f ≡ lot_in t bs
-  lot-refused f e = go (leb (32 * t.trains) (length bs - start)) refl e
-    where
-      go : (enough : Bool) → leb (32 * t.trains) (length bs - start) ≡ enough → refused f ≡ cond enough (got (start + 32 * t.trains)) (refused 11) → refused f ≡ lot_in t bs
-      go true l e = let z : ◌≡◌ {A = ℕ} 0 1 = cc in absurd (omega arith)
-      go false l e =
-          let g : leb (32 * t.trains) (length (drop start bs)) ≡ false = simp length-drop l in
-          let n : f ≡ 11 = cc in
-          ap refused n ∙ sym (ap (λ enough. cond enough (got record { what = record { order = order; chances = take (32 * t.trains) (drop start bs) }; left = drop (32 * t.trains) (drop start bs) }) (refused 11)) g) ∙ lot_from
 
 -- and the other way: a lot that was had
 pub chances_had : (n : ℕ) (order bs : List ℕ) (h : Had Lot) → chances_in n order bs ≡ got h →

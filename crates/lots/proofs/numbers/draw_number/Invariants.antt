@@ -1,10 +1,11 @@
 -- From the bytes that are left the same number is drawn.
-use Rattle.std.proofs.Common.{◌≡◌, ◌-◌, ◌≤◌, length, drop}
+use Rattle.std.proofs.Common.{◌≡◌, length}
 use Rattle.lots.specs.Lots.{number_in}
+use Rattle.lots.specs.Views.{EndOf}
 use Rattle.lots.proofs.numbers.draw_number.Given as goal
 
-abbrev pub invariant-loop-at : goal.invariant-loop-at
-invariant-loop-at l = (number_in l.below (drop l.at l.bytes) ≡ number_in l.below (drop l.start l.bytes)) × (l.at ≤ length l.bytes)
+abbrev pub invariant-loop-four : goal.invariant-loop-four
+invariant-loop-four l = (number_in l.below l.rest ≡ number_in l.below l.bytes) × EndOf l.bytes l.rest
 
-abbrev pub decreases-loop-at : goal.decreases-loop-at
-decreases-loop-at l = length l.bytes - l.at
+abbrev pub decreases-loop-four : goal.decreases-loop-four
+decreases-loop-four l = length l.rest

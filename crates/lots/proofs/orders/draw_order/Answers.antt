@@ -4,4 +4,4 @@ use Rattle.lots.proofs.orders.draw_order.Goals as goal
 
 pub unreachable-requires : goal.unreachable-requires
 unreachable-requires c =
-    order_made _ _ _ _ _ c.new.result (simp length-take (omega arith)) (simp length-take (omega arith)) c.count_up.ensures c.in_ok-end.ensures.row c.new.ensures c.in_default.is
+    order_made _ _ _ _ _ c.new.result (simp length-take (omega arith)) (simp length-take (omega arith)) c.count_up.ensures c.in_ok-left.ensures.row c.new.ensures c.in_default.is
