@@ -11,13 +11,16 @@ same_parts a b c d l e = (
   sym (drop_at a c (length a) refl) ∙ ap (drop (length a)) e ∙ drop_at b d (length a) (sym l),
 )
 
--- b put behind a, where it fills what is left
-pub put_end : {X : Type 0} (a rest b : List X) (i n : ℕ) → length a ≡ i → length rest ≤ n → put_mid i n (a ++ rest) b ≡ a ++ b
-put_end a rest b i n l h =
+-- b put behind a
+pub put_next : {X : Type 0} (a rest b : List X) (i n : ℕ) → length a ≡ i → put_mid i n (a ++ rest) b ≡ a ++ (b ++ drop n rest)
+put_next a rest b i n l =
     let t = take_at a rest i l in
-    let d : drop n (drop i (a ++ rest)) ≡ [] = ap (drop n) (drop_at a rest i l) ∙ drop_all n rest h in
-    let z = append-nil b in
+    let d = ap (drop n) (drop_at a rest i l) in
     cc
+
+-- where it fills what is left
+pub put_end : {X : Type 0} (a rest b : List X) (i n : ℕ) → length a ≡ i → length rest ≤ n → put_mid i n (a ++ rest) b ≡ a ++ b
+put_end a rest b i n l h = put_next a rest b i n l ∙ ap (λ xs. a ++ xs) (ap (λ xs. b ++ xs) (drop_all n rest h) ∙ append-nil b)
 
 -- chunk j of those that a list is cut into
 pub first_chunks_at : {X : Type 0} (n k : ℕ) (xs : List X) (j : ℕ) → j < k → get_or (first_chunks n k xs) j [] ≡ take n (drop (n * j) xs)
