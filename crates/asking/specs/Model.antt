@@ -10,10 +10,10 @@ use Rattle.asking.specs.declared.tested.Tested.{Tested as CodeTested}
 use Rattle.asking.specs.Asking.{Awaiting, Ready, Drawn, Asked, Tested}
 
 abbrev pub awaiting_of : CodeAwaiting → Awaiting
-awaiting_of s = record { task = task_of s.task; rounds = s.rounds }
+awaiting_of s = record { task = task_of s.task; rounds = s.rounds.count }
 
 abbrev pub ready_of : CodeReady → Ready
-ready_of s = record { task = task_of s.task; rounds = s.rounds; round = s.round; digest = s.digest }
+ready_of s = record { task = task_of s.task; rounds = s.rounds.count; round = s.round; digest = s.digest }
 
 abbrev pub drawn_of : CodeDrawn → Drawn
 drawn_of s = record { ready = ready_of s.ready; pair = s.pair }

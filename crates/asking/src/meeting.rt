@@ -1,10 +1,8 @@
 // The Task that comes is to be the asker's own.
 ghost use Rattle.std.specs.Prelude.{◌≡◌};
-ghost use Rattle.paths.specs.Count.{same_row};
 ghost use Rattle.sha256.specs.Sha256.{sha256};
 ghost use Rattle.tasks.specs.Model.{task_of};
 ghost use Rattle.tasks.specs.Reading.{looks, and_then};
-ghost use Rattle.words.specs.Model.{said};
 ghost use Rattle.words.specs.Reading.{read_word};
 ghost use Rattle.round.specs.Over.{leads};
 ghost use Rattle.asking.specs.Asking.{on_task, meet};
@@ -17,30 +15,17 @@ use round::{Outcome, Over};
 use tasks::{Fault, Task};
 use words::{Word, read_word};
 
-fn same(one: &[u8], other: &[u8]) -> bool
-    ensures { result ≡ same_row one.now other.now }
-{
-    one == other
-}
-
 // Tasks are compared by their bytes.
-fn on_task(own: &[u8], word: Word) -> Result<(), Fault>
-    ensures { looks result ≡ on_task own.now (said word.entry) }
-{
-    let Word::Task(bytes) = word else {
-        return Err(Fault::NotAwaited);
-    };
-    if !same(bytes, own) {
-        return Err(Fault::OtherTask);
-    }
-    Ok(())
-}
-
 fn test_task(task: &Task, own: &[u8], bytes: &[u8]) -> Result<(), Fault>
     ensures { looks result ≡ and_then (read_word (task_of task.now) bytes.now) (on_task own.now) }
 {
-    let word = read_word(task, bytes)?;
-    on_task(own, word)
+    let Word::Task(bytes) = read_word(task, bytes)? else {
+        return Err(Fault::NotAwaited);
+    };
+    if bytes != own {
+        return Err(Fault::OtherTask);
+    }
+    Ok(())
 }
 
 impl Awaiting {
@@ -48,13 +33,11 @@ impl Awaiting {
     pub fn meet(self, word: &[u8]) -> Result<Ready, Over>
         ensures { leads ready_of result ≡ meet sha256 (awaiting_of self) word.now }
     {
-        let digest = book::start(self.own.as_slice());
-        match test_task(&self.task, self.own.as_slice(), word) {
-            Ok(()) => turn(self.task, self.rounds, 0, digest),
-            Err(fault) => Err(Over {
-                outcome: Outcome::TaskFault(fault),
-                digest,
-            }),
-        }
+        let digest = book::start(&self.own);
+        test_task(&self.task, &self.own, word).map_err(|fault| Over {
+            outcome: Outcome::TaskFault(fault),
+            digest,
+        })?;
+        turn(self.task, self.rounds, 0, digest)
     }
 }

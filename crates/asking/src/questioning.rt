@@ -2,7 +2,6 @@
 ghost use Rattle.std.specs.Prelude.{◌≡◌};
 ghost use Rattle.tasks.specs.Model.{task_of};
 ghost use Rattle.tasks.specs.Reading.{looks, and_then};
-ghost use Rattle.words.specs.Model.{said};
 ghost use Rattle.words.specs.Said.{ask};
 ghost use Rattle.words.specs.Reading.{read_word};
 ghost use Rattle.words.specs.Writing.{said_bytes};
@@ -24,33 +23,28 @@ impl Ready {
     pub fn draw(self, bytes: &[u8]) -> Result<Drawn, Over>
         ensures { leads drawn_of result ≡ draw (ready_of self) bytes.now }
     {
-        match draw_question(&self.task, bytes) {
-            Ok(question) => Ok(Drawn {
-                ready: self,
-                pair: question.pair,
-            }),
-            Err(fault) => Err(stops(fault, self.round, self.digest)),
-        }
+        let question = draw_question(&self.task, bytes).map_err(|fault| stops(
+            fault,
+            self.round,
+            self.digest,
+        ))?;
+        Ok(Drawn {
+            ready: self,
+            pair: question.what,
+        })
     }
 }
 
-fn on_boxes(round: u32, word: Word) -> Result<(), Fault>
-    ensures { looks result ≡ on_boxes round (said word.entry) }
+fn test_boxes(task: &Task, round: u32, bytes: &[u8]) -> Result<(), Fault>
+    ensures { looks result ≡ and_then (read_word (task_of task.now) bytes.now) (on_boxes round) }
 {
-    let Word::Boxes(said, _) = word else {
+    let Word::Boxes(said, _) = read_word(task, bytes)? else {
         return Err(Fault::NotAwaited);
     };
     if said != round {
         return Err(Fault::NotAwaited);
     }
     Ok(())
-}
-
-fn test_boxes(task: &Task, round: u32, bytes: &[u8]) -> Result<(), Fault>
-    ensures { looks result ≡ and_then (read_word (task_of task.now) bytes.now) (on_boxes round) }
-{
-    let word = read_word(task, bytes)?;
-    on_boxes(round, word)
 }
 
 fn ask_bytes(round: u32, pair: u16) -> [u8; 7]
@@ -66,16 +60,17 @@ impl Drawn {
     pub fn question(self, word: Vec<u8>) -> Result<Asked, Over>
         ensures { leads asked_of result ≡ question (drawn_of self) word.items }
     {
-        match test_boxes(&self.ready.task, self.ready.round, word.as_slice()) {
-            Ok(()) => {
-                let ask = ask_bytes(self.ready.round, self.pair);
-                Ok(Asked {
-                    drawn: self,
-                    boxes: word,
-                    ask,
-                })
-            }
-            Err(fault) => Err(stops(fault, self.ready.round, self.ready.digest)),
-        }
+        let ready = &self.ready;
+        test_boxes(&ready.task, ready.round, &word).map_err(|fault| stops(
+            fault,
+            ready.round,
+            ready.digest,
+        ))?;
+        let ask = ask_bytes(ready.round, self.pair);
+        Ok(Asked {
+            drawn: self,
+            boxes: word,
+            ask,
+        })
     }
 }

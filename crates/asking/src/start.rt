@@ -9,23 +9,13 @@ use super::awaiting::Awaiting;
 use std::alloc::Global;
 use tasks::{Fault, Rounds, Task, write_task};
 
-fn with_own_bytes(heap: Global, task: Task, rounds: Rounds) -> Result<Awaiting, Fault>
-    ensures { MatchResult result (λ s. awaiting_of s ≡ record { task = task_of task; rounds = rounds.count }) (λ f. f ≡ Memory) }
-{
-    let own = write_task(heap, &task)?;
-    Ok(Awaiting {
-        task,
-        own,
-        rounds: rounds.count,
-    })
-}
-
 impl Awaiting {
     // An asker who wants to see so many rounds of its own task. It is refused for want of memory alone.
     pub fn start(heap: Global, task: Task, rounds: Rounds) -> Result<Awaiting, Fault>
         ensures state { MatchResult result (λ s. awaiting_of s ≡ record { task = task_of task; rounds = rounds.count }) (λ f. f ≡ Memory) }
         ensures conduct { (hash : List ℕ → List ℕ) → Conduct hash (task_of task) rounds.count }
     {
-        with_own_bytes(heap, task, rounds)
+        let own = write_task(heap, &task)?;
+        Ok(Awaiting { task, own, rounds })
     }
 }

@@ -23,10 +23,7 @@ use words::{Word, read_word};
 fn is_opened_of(task: &Task, round: u32, bytes: &[u8]) -> bool
     ensures { result ≡ is_opened_of round (read_word (task_of task.now) bytes.now) }
 {
-    match read_word(task, bytes) {
-        Ok(Word::Opened(said, _, _)) => said == round,
-        _ => false,
-    }
+    matches!(read_word(task, bytes), Ok(Word::Opened(said, _, _)) if said == round)
 }
 
 // The bytes of an Opened of this round, whether it is good or not.
@@ -36,9 +33,7 @@ fn opened_of(task: &Task, round: u32, bytes: &[u8]) -> Option<[u8; 75]>
     if !is_opened_of(task, round, bytes) {
         return None;
     }
-    let mut opened = [0; 75];
-    opened.copy_from_slice(bytes);
-    Some(opened)
+    bytes.try_into().ok()
 }
 
 // What stands behind the head of a Boxes word; nothing where it is cut.
@@ -65,16 +60,6 @@ fn end_bytes(round: u32, content: bool) -> [u8; 6]
     [6, a, b, c, d, content as u8]
 }
 
-// The End that says whether the answer was good.
-fn end_after(round: u32, test: &Result<(), Fault>) -> [u8; 6]
-    ensures { result ≡ said_bytes (end round (is_got (looks test.now))) }
-{
-    match test {
-        Ok(_) => end_bytes(round, true),
-        Err(_) => end_bytes(round, false),
-    }
-}
-
 impl Asked {
     // Whatever came in answer, no bytes where the input ended, there is an End to send.
     pub fn test(self, word: &[u8]) -> Tested
@@ -82,30 +67,15 @@ impl Asked {
         ensures exact { Exact sha256 (task_of self.drawn.ready.task) }
     {
         let ready = &self.drawn.ready;
-        let test = test_answer(
-            &ready.task,
-            ready.round,
-            self.drawn.pair,
-            self.boxes.as_slice(),
-            word,
-        );
+        let test = test_answer(&ready.task, ready.round, self.drawn.pair, &self.boxes, word);
         let opened = opened_of(&ready.task, ready.round, word);
-        let end = end_after(ready.round, &test);
+        let end = end_bytes(ready.round, test.is_ok());
         Tested {
             asked: self,
             opened,
             end,
             test,
         }
-    }
-}
-
-fn counted_bytes(opened: &Option<[u8; 75]>) -> &[u8]
-    ensures { result.now ≡ counted opened.now }
-{
-    match opened {
-        Some(bytes) => bytes,
-        None => &[],
     }
 }
 
@@ -116,17 +86,10 @@ impl Tested {
     {
         let asked = self.asked;
         let ready = asked.drawn.ready;
-        let opened = counted_bytes(&self.opened);
-        let digest = book::next(
-            ready.digest,
-            asked.boxes.as_slice(),
-            &asked.ask,
-            opened,
-            &self.end,
-        );
-        match self.test {
-            Ok(()) => turn(ready.task, ready.rounds, ready.round + 1, digest),
-            Err(fault) => Err(stops(fault, ready.round, digest)),
-        }
+        let opened = self.opened.as_ref().map_or(&[][..], |bytes| &bytes[..]);
+        let digest = book::next(ready.digest, &asked.boxes, &asked.ask, opened, &self.end);
+        self.test
+            .map_err(|fault| stops(fault, ready.round, digest))?;
+        turn(ready.task, ready.rounds, ready.round + 1, digest)
     }
 }

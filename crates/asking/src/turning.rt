@@ -1,5 +1,5 @@
 // Whether there is another round, and how a fault ends a showing.
-ghost use Rattle.std.specs.Prelude.{◌≡◌, ◌^◌, ◌≤◌};
+ghost use Rattle.std.specs.Prelude.{◌≡◌};
 ghost use Rattle.tasks.specs.Fault.{number};
 ghost use Rattle.tasks.specs.Model.{task_of};
 ghost use Rattle.round.specs.Over.{leads, over_of, fault};
@@ -8,16 +8,15 @@ ghost use Rattle.asking.specs.Model.{ready_of};
 
 use super::ready::Ready;
 use round::{Outcome, Over};
-use tasks::{Fault, Task};
+use tasks::{Fault, Rounds, Task};
 
 // This round, or the end after the last one.
-pub(super) fn turn(task: Task, rounds: u32, round: u32, digest: [u8; 32]) -> Result<Ready, Over>
-    requires { rounds ≤ 2 ^ 24 }
-    ensures { leads ready_of result ≡ turn record { task = task_of task; rounds = rounds; round = round; digest = digest } }
+pub(super) fn turn(task: Task, rounds: Rounds, round: u32, digest: [u8; 32]) -> Result<Ready, Over>
+    ensures { leads ready_of result ≡ turn record { task = task_of task; rounds = rounds.count; round = round; digest = digest } }
 {
-    if round >= rounds {
+    if round >= rounds.count {
         return Err(Over {
-            outcome: Outcome::Content(rounds),
+            outcome: Outcome::Content(rounds.count),
             digest,
         });
     }

@@ -58,56 +58,6 @@ fn on_end(round: u32, word: Word) -> Result<bool, Fault>
     Ok(content)
 }
 
-fn read_boxes(task: &Task, round: u32, bytes: &[u8]) -> Result<(), Fault>
-    ensures { looks result ≡ and_then (read_word (task_of task.now) bytes.now) (on_boxes round) }
-{
-    let word = read_word(task, bytes)?;
-    on_boxes(round, word)
-}
-
-fn read_ask(task: &Task, round: u32, bytes: &[u8]) -> Result<u16, Fault>
-    ensures { gives (λ i. i) result ≡ and_then (read_word (task_of task.now) bytes.now) (on_ask round) }
-{
-    let word = read_word(task, bytes)?;
-    on_ask(round, word)
-}
-
-fn read_answer(task: &Task, round: u32, bytes: &[u8]) -> Result<Answer, Fault>
-    ensures { gives answer_of result ≡ and_then (read_word (task_of task.now) bytes.now) (on_answer round) }
-{
-    let word = read_word(task, bytes)?;
-    on_answer(round, word)
-}
-
-fn read_end(task: &Task, round: u32, bytes: &[u8]) -> Result<bool, Fault>
-    ensures { gives (λ c. c) result ≡ and_then (read_word (task_of task.now) bytes.now) (on_end round) }
-{
-    let word = read_word(task, bytes)?;
-    on_end(round, word)
-}
-
-fn hear_boxes(task: &Task, round: u32, word: Vec<u8>) -> Result<Heard, Fault>
-    ensures { gives heard_of result ≡ awaited (task_of task.now) round for_boxes word.items }
-{
-    match read_boxes(task, round, word.as_slice()) {
-        Ok(()) => Ok(Heard::Waits(Awaits::Ask(word))),
-        Err(fault) => Err(fault),
-    }
-}
-
-fn hear_ask(task: &Task, round: u32, boxes: Vec<u8>, word: Vec<u8>) -> Result<Heard, Fault>
-    ensures { gives heard_of result ≡ awaited (task_of task.now) round (for_ask boxes.items) word.items }
-{
-    match read_ask(task, round, word.as_slice()) {
-        Ok(pair) => Ok(Heard::Waits(Awaits::Answer(Asked {
-            boxes,
-            ask: word,
-            pair,
-        }))),
-        Err(fault) => Err(fault),
-    }
-}
-
 fn answered(asked: Asked, word: Vec<u8>, answer: Answer) -> Heard
     ensures { heard_of result ≡ answered (asked_of asked) word.items (answer_of answer) }
 {
@@ -122,65 +72,38 @@ fn answered(asked: Asked, word: Vec<u8>, answer: Answer) -> Heard
     }
 }
 
-fn hear_answer(task: &Task, round: u32, asked: Asked, word: Vec<u8>) -> Result<Heard, Fault>
-    ensures { gives heard_of result ≡ awaited (task_of task.now) round (for_answer (asked_of asked)) word.items }
-{
-    match read_answer(task, round, word.as_slice()) {
-        Ok(answer) => Ok(answered(asked, word, answer)),
-        Err(fault) => Err(fault),
-    }
-}
-
-fn hear_end(
-    task: &Task,
-    round: u32,
-    asked: Asked,
-    opened: Vec<u8>,
-    word: Vec<u8>,
-) -> Result<Heard, Fault>
-    ensures { gives heard_of result ≡ awaited (task_of task.now) round (for_end (asked_of asked) opened.items) word.items }
-{
-    match read_end(task, round, word.as_slice()) {
-        Ok(content) => Ok(Heard::Closes(Round {
-            asked,
-            opened: Some(opened),
-            end: word,
-            content,
-        })),
-        Err(fault) => Err(fault),
-    }
-}
-
-fn hear_none(task: &Task, round: u32, word: &[u8]) -> Result<Heard, Fault>
-    ensures { gives heard_of result ≡ awaited (task_of task.now) round for_nothing word.now }
-{
-    match read_word(task, word) {
-        Ok(_) => Err(Fault::NotAwaited),
-        Err(fault) => Err(fault),
-    }
-}
-
 fn awaited(task: &Task, round: u32, awaits: Awaits, word: Vec<u8>) -> Result<Heard, Fault>
     ensures { gives heard_of result ≡ awaited (task_of task.now) round (awaits_of awaits) word.items }
 {
+    let said = read_word(task, &word)?;
     match awaits {
-        Awaits::Boxes => hear_boxes(task, round, word),
-        Awaits::Ask(boxes) => hear_ask(task, round, boxes, word),
-        Awaits::Answer(asked) => hear_answer(task, round, asked, word),
-        Awaits::End(asked, opened) => hear_end(task, round, asked, opened, word),
-        Awaits::Nothing => hear_none(task, round, word.as_slice()),
+        Awaits::Boxes => {
+            on_boxes(round, said)?;
+            Ok(Heard::Waits(Awaits::Ask(word)))
+        }
+        Awaits::Ask(boxes) => {
+            let pair = on_ask(round, said)?;
+            Ok(Heard::Waits(Awaits::Answer(Asked {
+                boxes,
+                ask: word,
+                pair,
+            })))
+        }
+        Awaits::Answer(asked) => {
+            let answer = on_answer(round, said)?;
+            Ok(answered(asked, word, answer))
+        }
+        Awaits::End(asked, opened) => {
+            let content = on_end(round, said)?;
+            Ok(Heard::Closes(Round {
+                asked,
+                opened: Some(opened),
+                end: word,
+                content,
+            }))
+        }
+        Awaits::Nothing => Err(Fault::NotAwaited),
     }
-}
-
-fn hear_word(task: &Task, round: u32, awaits: Awaits, word: Vec<u8>) -> Result<Heard, Fault>
-    ensures answer { gives heard_of result ≡ hear (task_of task.now) round (awaits_of awaits) word.items }
-    ensures few { OnOk result (round < 2 ^ 24) }
-{
-    let heard = awaited(task, round, awaits, word)?;
-    if round >= MOST_ROUNDS {
-        return Err(Fault::TooManyRounds);
-    }
-    Ok(heard)
 }
 
 // The word of this round for which this is awaited, or its fault. So the words of a showing are cut into rounds.
@@ -189,5 +112,9 @@ pub fn hear(task: &Task, round: u32, awaits: Awaits, word: Vec<u8>) -> Result<He
     ensures few { OnOk result (round < 2 ^ 24) }
     ensures cuts { Cuts (task_of task.now) }
 {
-    hear_word(task, round, awaits, word)
+    let heard = awaited(task, round, awaits, word)?;
+    if round >= MOST_ROUNDS {
+        return Err(Fault::TooManyRounds);
+    }
+    Ok(heard)
 }

@@ -35,7 +35,7 @@ pub enum Heard {
 }
 
 // The word in the answer's place.
-#[derive(Clone, Copy)]
+#[derive(Clone, Copy, Debug, PartialEq, Eq)]
 pub(crate) enum Answer {
     Opened,
     NotContent,

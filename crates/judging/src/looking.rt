@@ -2,11 +2,8 @@
 ghost use Rattle.std.specs.Prelude.{◌≡◌, drop, vec_items};
 ghost use Rattle.sha256.specs.Sha256.{sha256};
 ghost use Rattle.tasks.specs.Model.{task_of};
-ghost use Rattle.tasks.specs.Reading.{looks, and_then};
-ghost use Rattle.fitting.specs.Pairs.{asked_pair};
-ghost use Rattle.words.specs.Reading.{read_word};
-ghost use Rattle.round.specs.Round.{test_opened};
-ghost use Rattle.judging.specs.Verdict.{content_of, first_of};
+ghost use Rattle.tasks.specs.Reading.{looks};
+ghost use Rattle.judging.specs.Verdict.{content_of};
 ghost use Rattle.judging.specs.Judging.{look, content_in};
 ghost use Rattle.cutting.specs.Phases.{round_of, counted};
 
@@ -17,8 +14,7 @@ use round::test_opened;
 use tasks::{Fault, Task};
 use words::read_word;
 
-// What stands behind the head of a Boxes word.
-pub(super) fn digests_in(boxes: &[u8]) -> &[u8]
+pub(super) fn behind_head(boxes: &[u8]) -> &[u8]
     ensures { result.now ≡ drop 7 boxes.now }
 {
     let [_, _, _, _, _, _, _, digests @ ..] = boxes else {
@@ -31,53 +27,44 @@ pub(super) fn digests_in(boxes: &[u8]) -> &[u8]
 pub(super) fn opened_in(round: &Round) -> &[u8]
     ensures { result.now ≡ counted vec_items round.now.opened }
 {
-    match &round.opened {
-        Some(word) => word.as_slice(),
-        None => &[],
+    round.opened.as_deref().unwrap_or_default()
+}
+
+// A round that is closed, with its number, in a showing of the task.
+#[derive(Clone, Copy)]
+pub(super) struct Closed<'a> {
+    pub(super) task: &'a Task,
+    pub(super) number: u32,
+    pub(super) round: &'a Round,
+}
+
+impl Closed<'_> {
+    // The opening of the round tested again.
+    fn look(&self) -> Result<(), Fault>
+        ensures { looks result ≡ look sha256 (task_of self.now.task.now) self.now.number (round_of self.now.round.now) }
+    {
+        let asked = &self.round.asked;
+        pair_at(self.task, asked.pair)?;
+        let word = read_word(self.task, opened_in(self.round))?;
+        test_opened(
+            self.task,
+            self.number,
+            asked.pair,
+            behind_head(&asked.boxes),
+            word,
+        )
     }
-}
 
-fn test(task: &Task, number: u32, pair: u16, digests: &[u8], opened: &[u8]) -> Result<(), Fault>
-    ensures { looks result ≡ and_then (asked_pair (task_of task.now) pair) (λ _. and_then (read_word (task_of task.now) opened.now) (test_opened sha256 (task_of task.now) number pair digests.now)) }
-{
-    pair_at(task, pair)?;
-    let word = read_word(task, opened)?;
-    test_opened(task, number, pair, digests, word)
-}
-
-// The opening of the round with this number tested again.
-fn look(task: &Task, number: u32, round: &Round) -> Result<(), Fault>
-    ensures { looks result ≡ look sha256 (task_of task.now) number (round_of round.now) }
-{
-    let boxes = round.asked.boxes.as_slice();
-    test(
-        task,
-        number,
-        round.asked.pair,
-        digests_in(boxes),
-        opened_in(round),
-    )
-}
-
-fn content_in(task: &Task, number: u32, round: &Round) -> Content
-    ensures { content_of result ≡ content_in sha256 (task_of task.now) number (round_of round.now) }
-{
-    let looked = look(task, number, round);
-    if !round.content {
-        return Content::Not(number, looked);
-    }
-    match looked {
-        Ok(()) => Content::All,
-        Err(fault) => Content::But(number, fault),
-    }
-}
-
-// What is found of the asker's content when this round is closed.
-pub(super) fn content_with(found: Content, task: &Task, number: u32, round: &Round) -> Content
-    ensures { content_of result ≡ first_of (content_of found) (content_in sha256 (task_of task.now) number (round_of round.now)) }
-{
-    match found {
-        Content::All => content_in(task, number, round),
-        found => found,
+    pub(super) fn content(&self) -> Content
+        ensures { content_of result ≡ content_in sha256 (task_of self.now.task.now) self.now.number (round_of self.now.round.now) }
+    {
+        let looked = self.look();
+        if !self.round.content {
+            return Content::Not(self.number, looked);
+        }
+        match looked {
+            Ok(()) => Content::All,
+            Err(fault) => Content::But(self.number, fault),
+        }
     }
 }

@@ -1,12 +1,12 @@
 // The judge's steps.
-ghost use Rattle.std.specs.Prelude.{◌≡◌, ◌+◌, ◌*◌, ◌^◌, ◌<◌, true, vec_len, MatchResult};
+ghost use Rattle.std.specs.Prelude.{◌≡◌, ◌^◌, ◌<◌, true, MatchResult};
 ghost use Rattle.sha256.specs.Sha256.{sha256};
 ghost use Rattle.tasks.specs.declared.fault.Fault.TheVariants.{Memory};
 ghost use Rattle.tasks.specs.Model.{task_of};
 ghost use Rattle.tasks.specs.Reading.{Meets, looks};
 ghost use Rattle.book.specs.Chain.{next_digest};
-ghost use Rattle.judging.specs.Verdict.{redrawn_of, verdict_of};
-ghost use Rattle.judging.specs.Judging.{nothing_yet};
+ghost use Rattle.judging.specs.Verdict.{content_of, redrawn_of, verdict_of, first_of, first_drawn};
+ghost use Rattle.judging.specs.Judging.{content_in, redrawn_in, nothing_yet};
 ghost use Rattle.cutting.specs.Cutting.{text_of, behind};
 ghost use Rattle.cutting.specs.Phases.{round_of, awaits_of};
 ghost use Rattle.judging.specs.Plans.{plan_in, fits_if_any};
@@ -18,22 +18,19 @@ ghost use Rattle.judging.specs.Redrawing.{TellsDifference};
 ghost use Rattle.judging.specs.Binding.{WordsBind, NoOtherWords};
 
 use super::judge::Judge;
-use super::looking::{content_with, opened_in};
-use super::redrawing::{redrawn_with, same};
+use super::looking::{Closed, opened_in};
 use super::verdict::{Content, Redrawn, Verdict};
 use book;
 use cutting::{Awaits, Heard, Round, hear};
 use fitting::test_plan;
-use std::alloc::{AllocError, Global};
+use std::alloc::Global;
+use std::mem;
 use tasks::{Fault, Plan, Task, write_task};
 
 fn test_if_any(task: &Task, plan: &Option<Plan>) -> Result<(), Fault>
     ensures { looks result ≡ tested_if_any (task_of task.now) (plan_in plan.now) }
 {
-    match plan {
-        Some(plan) => test_plan(task, plan),
-        None => Ok(()),
-    }
+    plan.as_ref().map_or(Ok(()), |plan| test_plan(task, plan))
 }
 
 fn nothing_yet(plan: &Option<Plan>) -> Redrawn
@@ -45,20 +42,14 @@ fn nothing_yet(plan: &Option<Plan>) -> Redrawn
     }
 }
 
-fn zeros(heap: Global, count: usize) -> Result<Vec<u8>, Fault>
-    ensures { MatchResult result (λ v. vec_len v ≡ count) (λ f. f ≡ Memory) }
-{
-    Ok(Vec::from_elem(heap, 0, count)?)
-}
-
 // The judge before the first word. It is refused for want of memory alone.
 fn begin(heap: Global, task: Task, plan: Option<Plan>) -> Result<Judge, Fault>
     requires { fits_if_any (task_of task) (plan_in plan) ≡ true }
     ensures { MatchResult result (λ s. judge_of s ≡ begin sha256 (task_of task) (plan_in plan)) (λ f. f ≡ Memory) }
 {
     let word = write_task(heap, &task)?;
-    let memory = zeros(heap, 7 + 32 * task.trains as usize)?;
-    let digest = book::start(word.as_slice());
+    let memory = Vec::from_elem(heap, 0, 7 + 32 * task.trains as usize)?;
+    let digest = book::start(&word);
     let redrawn = nothing_yet(&plan);
     Ok(Judge {
         task,
@@ -78,10 +69,10 @@ fn digest_after(digest: [u8; 32], round: &Round) -> [u8; 32]
     let asked = &round.asked;
     book::next(
         digest,
-        asked.boxes.as_slice(),
-        asked.ask.as_slice(),
+        &asked.boxes,
+        &asked.ask,
         opened_in(round),
-        round.end.as_slice(),
+        &round.end,
     )
 }
 
@@ -95,49 +86,12 @@ fn behind(round: &Round) -> Awaits
     }
 }
 
-// The round closed: added to the book, looked at, and drawn again.
-fn close(judge: Judge, drawn: &[u8], closed: Round) -> Judge
-    requires { judge.round < 2 ^ 24 }
-    ensures { judge_of result ≡ closing sha256 (judge_of judge) drawn.now (round_of closed) }
-{
-    let Judge {
-        task,
-        plan,
-        round,
-        digest,
-        content,
-        redrawn,
-        awaits: _,
-        mut memory,
-    } = judge;
-    let content = content_with(content, &task, round, &closed);
-    let redrawn = redrawn_with(
-        redrawn,
-        &task,
-        round,
-        &plan,
-        drawn,
-        memory.as_mut_slice(),
-        &closed,
-    );
-    Judge {
-        task,
-        plan,
-        round: round + 1,
-        digest: digest_after(digest, &closed),
-        content,
-        redrawn,
-        awaits: behind(&closed),
-        memory,
-    }
-}
-
 fn tell(judge: &Judge, digest: [u8; 32]) -> Verdict
     ensures { verdict_of result ≡ finish (judge_of judge.now) digest }
 {
     match &judge.awaits {
         Awaits::Boxes | Awaits::Nothing => {
-            if !same(&judge.digest, &digest) {
+            if judge.digest != digest {
                 return Verdict::OtherWords;
             }
             Verdict::Judged(judge.round, judge.content, judge.redrawn)
@@ -147,6 +101,45 @@ fn tell(judge: &Judge, digest: [u8; 32]) -> Verdict
 }
 
 impl Judge {
+    // What is found of the asker's content when this round is closed.
+    fn content_with(&self, round: &Round) -> Content
+        ensures { content_of result ≡ first_of (content_of self.now.content) (content_in sha256 (task_of self.now.task) self.now.round (round_of round.now)) }
+    {
+        let closed = Closed {
+            task: &self.task,
+            number: self.round,
+            round,
+        };
+        match self.content {
+            Content::All => closed.content(),
+            found => found,
+        }
+    }
+
+    // What is found of the plan and the drawn bytes when this round is closed.
+    fn redrawn_with(&mut self, drawn: &[u8], round: &Round) -> Redrawn
+        ensures found { redrawn_of result ≡ first_drawn (redrawn_of self.old.redrawn) (redrawn_in sha256 (task_of self.old.task) (plan_in self.old.plan) self.old.round (round_of round.now) drawn.now) }
+        ensures judge { judge_of self.new ≡ judge_of self.old }
+    {
+        match self.redrawn {
+            Redrawn::NotHanded | Redrawn::Agrees => self.redraw(drawn, round),
+            found => found,
+        }
+    }
+
+    // The round closed: added to the book, looked at, and drawn again.
+    fn close(mut self, drawn: &[u8], closed: &Round) -> Judge
+        requires { self.round < 2 ^ 24 }
+        ensures { judge_of result ≡ closing sha256 (judge_of self) drawn.now (round_of closed.now) }
+    {
+        self.content = self.content_with(closed);
+        self.redrawn = self.redrawn_with(drawn, closed);
+        self.digest = digest_after(self.digest, closed);
+        self.awaits = behind(closed);
+        self.round += 1;
+        self
+    }
+
     // The judge of a showing of this task, with the plan, if it is handed over; or the fault of the plan.
     pub fn start(heap: Global, task: Task, plan: Option<Plan>) -> Result<Judge, Fault>
         ensures { Meets judge_of result (start sha256 (task_of task) (plan_in plan)) }
@@ -157,44 +150,19 @@ impl Judge {
 
     // The next word, with the drawn bytes for its round, if they are handed over: those of the rounds before it left out. Or the verdict, where the words can't be
     // cut into rounds.
-    pub fn take(self, word: Vec<u8>, drawn: &[u8]) -> Result<Judge, Verdict>
+    pub fn take(mut self, word: Vec<u8>, drawn: &[u8]) -> Result<Judge, Verdict>
         ensures { goes result ≡ step sha256 (judge_of self) word.items drawn.now }
     {
-        let Judge {
-            task,
-            plan,
-            round,
-            digest,
-            content,
-            redrawn,
-            awaits,
-            memory,
-        } = self;
-        match hear(&task, round, awaits, word) {
-            Ok(Heard::Waits(awaits)) => Ok(Judge {
-                task,
-                plan,
-                round,
-                digest,
-                content,
-                redrawn,
-                awaits,
-                memory,
-            }),
-            Ok(Heard::Closes(closed)) => {
-                let judge = Judge {
-                    task,
-                    plan,
-                    round,
-                    digest,
-                    content,
-                    redrawn,
-                    awaits: Awaits::Nothing,
-                    memory,
-                };
-                Ok(close(judge, drawn, closed))
+        let awaits = mem::replace(&mut self.awaits, Awaits::Nothing);
+        let heard = hear(&self.task, self.round, awaits, word).map_err(|fault| Verdict::BadWords(
+            fault, self.round,
+        ))?;
+        match heard {
+            Heard::Waits(awaits) => {
+                self.awaits = awaits;
+                Ok(self)
             }
-            Err(fault) => Err(Verdict::BadWords(fault, round)),
+            Heard::Closes(closed) => Ok(self.close(drawn, &closed)),
         }
     }
 

@@ -1,9 +1,8 @@
 -- The Ask and the End that are awaited: which bytes are one, and what is made of others. Assumes nothing.
-use Rattle.std.proofs.Common.{◌≡◌, ℕ, ◌<◌, ◌≤◌, Bool, true, false, eqb, ltb, ◌⊎◌, List, length, IfOk, Ok, Err, Result, sym, refl, ap, ◌∙◌, inl, inr, arith}
+use Rattle.std.proofs.Common.{◌≡◌, ℕ, ◌<◌, ◌≤◌, Bool, true, false, eqb, ltb, ◌⊎◌, List, length, refl, ap, ◌∙◌, inl, inr, arith}
 use Rattle.std.proofs.lemmas.Bool.{cases_Bool, eqb-true, eqb-false, ltb-true, ltb-false}
 use Rattle.paths.specs.Plan.{Task, all_below}
-use Rattle.tasks.specs.declared.fault.Fault.{Fault}
-use Rattle.tasks.specs.Reading.{Got, got, refused, and_then, gives}
+use Rattle.tasks.specs.Reading.{Got, got, refused, and_then}
 use Rattle.words.specs.Said.{Said, task, plan, boxes, ask, opened, end}
 use Rattle.words.specs.Reading.{read_word}
 use Rattle.words.specs.Writing.{said_bytes, WordLaw}
@@ -73,21 +72,3 @@ module _ (t : Task) (n : ℕ) (w : List ℕ) where
         go : (g : Got Said) → read_word t w ≡ g → EndHeard
         go (got x) e = end_in_lem x e
         go (refused f) e = ends_not f (no_word f e) (rw e refl)
-
-    -- an Ask has 7 bytes and names a pair, and an End has 6 bytes
-    pub ask-whole : (r : Result ℕ Fault) → gives (λ i. i) r ≡ ask_in t n w → IfOk r (λ i. (length w ≡ 7) × (i < length t.pairs))
-    ask-whole (Err f) e = tt
-    ask-whole (Ok j) e = go ask-heard
-      where
-        go : AskHeard → (length w ≡ 7) × (j < length t.pairs)
-        go (asks i l b h) = let s : j ≡ i = cc in (ap length b, omega arith)
-        go (asks_none i l b h) = never 7 j (sym (e ∙ h))
-        go (asks_not f q h) = never f j (sym (e ∙ h))
-
-    pub end_whole : (r : Result Bool Fault) → gives (λ c. c) r ≡ end_in t n w → IfOk r (λ _. length w ≡ 6)
-    end_whole (Err f) e = tt
-    end_whole (Ok c) e = go end-heard
-      where
-        go : EndHeard → length w ≡ 6
-        go (ends b q h) = ap length q
-        go (ends_not f q h) = never f c (sym (e ∙ h))

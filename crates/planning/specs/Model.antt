@@ -11,7 +11,7 @@ use Rattle.planning.specs.declared.start.Begun.{Begun as CodeBegun}
 use Rattle.planning.specs.Planning.{Ready, Closed, Opened, Heard, Begun}
 
 abbrev pub ready_of : CodeReady → Ready
-ready_of s = record { task = task_of s.task; plan = plan_of s.plan; rounds = s.rounds; round = s.round; digest = s.digest }
+ready_of s = record { task = task_of s.task; plan = plan_of s.plan; rounds = s.rounds.count; round = s.round; digest = s.digest }
 
 abbrev pub closed_of : CodeClosed → Closed
 closed_of s =

@@ -1,13 +1,12 @@
 // How the planner begins.
-ghost use Rattle.std.specs.Prelude.{◌≡◌, ℕ, ◌+◌, ◌*◌, true, List, vec_len, MatchResult};
+ghost use Rattle.std.specs.Prelude.{◌≡◌, ℕ, true, List, MatchResult};
 ghost use Rattle.sha256.specs.Sha256.{sha256};
 ghost use Rattle.paths.specs.Plan.{fits};
 ghost use Rattle.tasks.specs.declared.fault.Fault.TheVariants.{Memory};
 ghost use Rattle.tasks.specs.Model.{task_of, plan_of};
 ghost use Rattle.tasks.specs.Reading.{Meets};
-ghost use Rattle.round.specs.Over.{leads};
-ghost use Rattle.planning.specs.Model.{begun_of, ready_of};
-ghost use Rattle.planning.specs.Planning.{turn, begin, start};
+ghost use Rattle.planning.specs.Model.{begun_of};
+ghost use Rattle.planning.specs.Planning.{begin, start};
 ghost use Rattle.planning.specs.Conduct.{Conduct};
 
 use super::ready::Ready;
@@ -24,65 +23,33 @@ pub struct Begun {
     pub next: Result<Ready, Over>,
 }
 
-fn zeros(heap: Global, count: usize) -> Result<Vec<u8>, Fault>
-    ensures { MatchResult result (λ v. vec_len v ≡ count) (λ f. f ≡ Memory) }
-{
-    Ok(Vec::from_elem(heap, 0, count)?)
-}
-
-// The first round, with memory for the words and chances; or the end, where there are no rounds.
-fn first(
-    task: Task,
-    plan: Plan,
-    rounds: Rounds,
-    digest: [u8; 32],
-    boxes: Vec<u8>,
-    chances: Vec<u8>,
-) -> Result<Ready, Over>
-    requires fits { fits (task_of task) (plan_of plan) ≡ true }
-    requires boxes { vec_len boxes ≡ 7 + 32 * task.trains }
-    requires chances { vec_len chances ≡ 32 * task.trains }
-    ensures { leads ready_of result ≡ turn (record { task = task_of task; plan = plan_of plan; rounds = rounds.count; round = 0; digest = digest }) }
-{
-    if rounds.count == 0 {
-        return Err(Over {
-            outcome: Outcome::Content(0),
-            digest,
-        });
-    }
-    Ok(Ready {
-        task,
-        plan,
-        rounds: rounds.count,
-        round: 0,
-        digest,
-        boxes,
-        chances,
-    })
-}
-
-// A showing of a plan that fits. It is refused for want of memory alone.
+// A showing of a plan that fits: the first round, or the end, where there are no rounds. It is refused for want of memory alone.
 fn begin(heap: Global, task: Task, plan: Plan, rounds: Rounds) -> Result<Begun, Fault>
     requires { fits (task_of task) (plan_of plan) ≡ true }
     ensures { MatchResult result (λ b. begun_of b ≡ begin sha256 (task_of task) (plan_of plan) rounds.count) (λ f. f ≡ Memory) }
 {
     let word = write_task(heap, &task)?;
-    let chances = 32 * task.trains as usize;
-    let boxes = zeros(heap, 7 + chances)?;
-    let memory = zeros(heap, chances)?;
-    let digest = book::start(word.as_slice());
-    Ok(Begun {
-        word,
-        next: first(task, plan, rounds, digest, boxes, memory),
-    })
-}
-
-// A plan that is to fit, tested first.
-fn begin_if_fit(heap: Global, task: Task, plan: Plan, rounds: Rounds) -> Result<Begun, Fault>
-    ensures { Meets begun_of result (start sha256 (task_of task) (plan_of plan) rounds.count) }
-{
-    test_plan(&task, &plan)?;
-    begin(heap, task, plan, rounds)
+    let size = 32 * task.trains as usize;
+    let boxes = Vec::from_elem(heap, 0, 7 + size)?;
+    let chances = Vec::from_elem(heap, 0, size)?;
+    let digest = book::start(&word);
+    if rounds.count == 0 {
+        let next = Err(Over {
+            outcome: Outcome::Content(0),
+            digest,
+        });
+        return Ok(Begun { word, next });
+    }
+    let next = Ok(Ready {
+        task,
+        plan,
+        rounds,
+        round: 0,
+        digest,
+        boxes,
+        chances,
+    });
+    Ok(Begun { word, next })
 }
 
 impl Ready {
@@ -92,6 +59,7 @@ impl Ready {
         ensures answer { Meets begun_of result (start sha256 (task_of task) (plan_of plan) rounds.count) }
         ensures conduct { (hash : List ℕ → List ℕ) → Conduct hash (task_of task) (plan_of plan) rounds.count }
     {
-        begin_if_fit(heap, task, plan, rounds)
+        test_plan(&task, &plan)?;
+        begin(heap, task, plan, rounds)
     }
 }

@@ -1,11 +1,11 @@
 // The steps of a round.
-ghost use Rattle.std.specs.Prelude.{◌≡◌, ◌+◌, ◌*◌, ◌<◌, length, drop, vec_len, IfOk};
+ghost use Rattle.std.specs.Prelude.{◌≡◌, ◌+◌, ◌*◌, ◌<◌, length, drop, IfOk};
 ghost use Rattle.sha256.specs.Sha256.{sha256};
-ghost use Rattle.paths.specs.Order.{order_of};
 ghost use Rattle.tasks.specs.Fault.{number};
 ghost use Rattle.tasks.specs.Model.{task_of, plan_of};
 ghost use Rattle.book.specs.Lengths.{round_text};
 ghost use Rattle.book.specs.Chain.{next_digest};
+ghost use Rattle.lots.specs.Views.{lot_of};
 ghost use Rattle.words.specs.Writing.{said_bytes};
 ghost use Rattle.round.specs.Over.{over_of, leads};
 ghost use Rattle.round.specs.Round.{boxes_for, opened_for};
@@ -18,82 +18,52 @@ use super::hearing::{read_ask, read_end};
 use super::opened::Opened;
 use super::ready::Ready;
 use book::next;
-use lots::draw_lot;
-use paths::Order;
+use lots::{Had, Lot, draw_lot};
 use round::{Outcome, Over, opened_word, write_boxes};
-use tasks::{Fault, Plan};
-
-// The end by a fault in this round.
-fn stops(ready: Ready, fault: Fault) -> Over
-    ensures { over_of result ≡ stops (ready_of ready) (number fault) }
-{
-    let digest = ready.digest;
-    Over {
-        outcome: Outcome::Fault(fault, ready.round),
-        digest,
-    }
-}
-
-fn refill(memory: &mut Vec<u8>, bytes: &[u8])
-    requires { vec_len memory.old ≡ length bytes.now }
-    ensures items { memory.new.items ≡ bytes.now }
-    ensures len { vec_len memory.new ≡ vec_len memory.old }
-{
-    memory.as_mut_slice().copy_from_slice(bytes);
-}
-
-fn put_boxes(plan: &Plan, round: u32, order: &Order, chances: &[u8], word: &mut Vec<u8>)
-    requires chances { length chances.now ≡ 32 * length (plan_of plan.now) }
-    requires room { vec_len word.old ≡ 7 + 32 * length (plan_of plan.now) }
-    ensures items { word.new.items ≡ said_bytes (boxes_for sha256 round (plan_of plan.now) (record { order = order_of order.now; chances = chances.now })) }
-    ensures len { vec_len word.new ≡ vec_len word.old }
-{
-    write_boxes(plan, round, order, chances, word.as_mut_slice());
-}
-
-// The boxes closed with this lot.
-fn closed(ready: Ready, order: Order, bytes: &[u8], used: usize) -> Closed
-    requires { length bytes.now ≡ 32 * ready.task.trains }
-    ensures state { closed_of result ≡ record { ready = ready_of ready; lot = record { order = order_of order; chances = bytes.now }; boxes = said_bytes (boxes_for sha256 ready.round (plan_of ready.plan) (record { order = order_of order; chances = bytes.now })) } }
-    ensures used { result.used ≡ used }
-{
-    let Ready {
-        task,
-        plan,
-        rounds,
-        round,
-        digest,
-        mut boxes,
-        mut chances,
-    } = ready;
-    refill(&mut chances, bytes);
-    put_boxes(&plan, round, &order, bytes, &mut boxes);
-    let ready = Ready {
-        task,
-        plan,
-        rounds,
-        round,
-        digest,
-        boxes,
-        chances,
-    };
-    Closed { ready, order, used }
-}
+use tasks::Fault;
 
 impl Ready {
+    // The end by a fault in this round.
+    fn stops(&self, fault: Fault) -> Over
+        ensures { over_of result ≡ stops (ready_of self.now) (number fault) }
+    {
+        Over {
+            outcome: Outcome::Fault(fault, self.round),
+            digest: self.digest,
+        }
+    }
+
+    // The Boxes of the round written with this lot, and its chances kept.
+    fn put_lot(&mut self, lot: &Lot)
+        requires { length lot.now.chances.now ≡ 32 * self.old.task.trains }
+        ensures ready { ready_of self.new ≡ ready_of self.old }
+        ensures chances { self.new.chances.items ≡ lot.now.chances.now }
+        ensures boxes { self.new.boxes.items ≡ said_bytes (boxes_for sha256 self.old.round (plan_of self.old.plan) (lot_of lot.now)) }
+    {
+        self.chances.copy_from_slice(lot.chances);
+        write_boxes(
+            &self.plan,
+            self.round,
+            &lot.order,
+            lot.chances,
+            &mut self.boxes,
+        );
+    }
+
     // The boxes of the round closed with a lot from the drawn bytes, or the end by fault 11.
-    pub fn close(self, drawn: &[u8]) -> Result<Closed, Over>
+    pub fn close(mut self, drawn: &[u8]) -> Result<Closed, Over>
         ensures state { leads closed_of result ≡ close sha256 (ready_of self) drawn.now }
         ensures used { IfOk result (λ c. drop c.used drawn.now ≡ left_over (task_of self.task) drawn.now) }
     {
-        match draw_lot(&self.task, drawn) {
-            Ok(lot) => {
-                let at = lot.at;
-                let end = lot.end;
-                Ok(closed(self, lot.order, &drawn[at..end], end))
-            }
-            Err(fault) => Err(stops(self, fault)),
-        }
+        let Had { what: lot, left } = draw_lot(&self.task, drawn).map_err(|fault| self.stops(
+            fault,
+        ))?;
+        self.put_lot(&lot);
+        Ok(Closed {
+            ready: self,
+            order: lot.order,
+            used: drawn.len() - left.len(),
+        })
     }
 }
 
@@ -107,7 +77,7 @@ fn open(closed: &Closed, pair: u16) -> [u8; 75]
         &ready.plan,
         ready.round,
         &closed.order,
-        ready.chances.as_slice(),
+        &ready.chances,
         pair,
     )
     .unwrap()
@@ -118,19 +88,14 @@ impl Closed {
     pub fn answer(self, word: &[u8]) -> Result<Opened, Over>
         ensures { leads opened_of result ≡ answer (closed_of self) word.now }
     {
-        match read_ask(&self.ready.task, self.ready.round, word) {
-            Ok(pair) => {
-                let opened = open(&self, pair);
-                let mut ask = [0; 7];
-                ask.copy_from_slice(word);
-                Ok(Opened {
-                    closed: self,
-                    ask,
-                    opened,
-                })
-            }
-            Err(fault) => Err(stops(self.ready, fault)),
-        }
+        let ready = &self.ready;
+        let pair = read_ask(&ready.task, ready.round, word).map_err(|fault| ready.stops(fault))?;
+        let opened = open(&self, pair);
+        Ok(Opened {
+            closed: self,
+            ask: word.try_into().unwrap(),
+            opened,
+        })
     }
 }
 
@@ -139,50 +104,30 @@ impl Opened {
     pub fn hear(self, word: &[u8]) -> Result<Heard, Over>
         ensures { leads heard_of result ≡ hear (opened_of self) word.now }
     {
-        match read_end(&self.closed.ready.task, self.closed.ready.round, word) {
-            Ok(content) => {
-                let mut end = [0; 6];
-                end.copy_from_slice(word);
-                Ok(Heard {
-                    opened: self,
-                    end,
-                    content,
-                })
-            }
-            Err(fault) => Err(stops(self.closed.ready, fault)),
-        }
+        let ready = &self.closed.ready;
+        let content = read_end(&ready.task, ready.round, word).map_err(|fault| ready.stops(fault))?;
+        Ok(Heard {
+            opened: self,
+            end: word.try_into().unwrap(),
+            content,
+        })
     }
 }
 
 // The next round, or the end after the last one.
-fn next_round(ready: Ready, digest: [u8; 32]) -> Result<Ready, Over>
-    ensures { leads ready_of result ≡ turn (record { task = task_of ready.task; plan = plan_of ready.plan; rounds = ready.rounds; round = ready.round + 1; digest = digest }) }
+fn next_round(mut ready: Ready, digest: [u8; 32]) -> Result<Ready, Over>
+    ensures { leads ready_of result ≡ turn (record { task = task_of ready.task; plan = plan_of ready.plan; rounds = ready.rounds.count; round = ready.round + 1; digest = digest }) }
 {
-    let Ready {
-        task,
-        plan,
-        rounds,
-        round,
-        digest: _,
-        boxes,
-        chances,
-    } = ready;
-    let round = round + 1;
-    if round >= rounds {
+    let round = ready.round + 1;
+    if round >= ready.rounds.count {
         return Err(Over {
-            outcome: Outcome::Content(rounds),
+            outcome: Outcome::Content(ready.rounds.count),
             digest,
         });
     }
-    Ok(Ready {
-        task,
-        plan,
-        rounds,
-        round,
-        digest,
-        boxes,
-        chances,
-    })
+    ready.round = round;
+    ready.digest = digest;
+    Ok(ready)
 }
 
 fn digest_after(heard: &Heard) -> [u8; 32]
@@ -191,7 +136,7 @@ fn digest_after(heard: &Heard) -> [u8; 32]
     let ready = &heard.opened.closed.ready;
     next(
         ready.digest,
-        ready.boxes.as_slice(),
+        &ready.boxes,
         &heard.opened.ask,
         &heard.opened.opened,
         &heard.end,

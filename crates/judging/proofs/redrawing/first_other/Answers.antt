@@ -1,12 +1,10 @@
-use Rattle.std.proofs.Common.{sym, ◌∙◌}
-use Rattle.judging.proofs.Firsts.{first_more, first_here, first-none}
+use Rattle.std.proofs.Common.{◌≡◌, true, false, rules, tests}
+use Rattle.std.proofs.lemmas.Iterator.{first_from_Range}
+use Rattle.judging.specs.Judging.{other_box}
+use Rattle.judging.proofs.Firsts.{first_is}
 use Rattle.judging.proofs.redrawing.first_other.Goals as goal
 
-pub loop-train-preserved : goal.loop-train-preserved
-loop-train-preserved c = first_more _ _ _ c.loop-train-test.true (sym c.if-other_box.ensures) ∙ c.loop-train.invariant
-
-pub returns-then-other_box : goal.returns-then-other_box
-returns-then-other_box c = sym (first_here _ _ _ c.loop-train-test.true (sym c.if-other_box.ensures)) ∙ c.loop-train.invariant
-
 pub returns : goal.returns
-returns c = sym (first-none _ _ _ c.loop-train-test.false) ∙ c.loop-train.invariant
+returns c =
+    let is = other_box c.args.digests.now c.args.given.now in
+    first_is is c.args.trains _ (first_from_Range _ _ _ _ (λ i. is i ≡ true) (λ i. is i ≡ false) c.find.ensures.ran (λ x q k. search (rules, tests)) (λ x q k. search (rules, tests)))

@@ -1,22 +1,20 @@
-use Rattle.std.proofs.Common.{ap, ◌∙◌}
+use Rattle.std.proofs.Common.{ap, ◌∙◌, rules}
 use Rattle.book.specs.Chain.{after}
 use Rattle.sha256.specs.Sha256.{sha256}
-use Rattle.asking.specs.Asking.{begun}
-use Rattle.asking.specs.Model.{awaiting_of}
 use Rattle.asking.proofs.awaiting.Awaiting.meet.Goals as goal
 
-pub returns-in-Ok : goal.returns-in-Ok
+pub returns-in_err-map_err : goal.returns-in_err-map_err
 unfolding after
-returns-in-Ok c =
+returns-in_err-map_err c =
     let own = c.args.self.own_bytes in
-    let d = c.start-digest.ensures.value ∙ ap sha256 (c.as_slice.ensures.value ∙ own) in
-    let e = rw (c.as_slice-2.ensures.value ∙ own) at c.in-Ok.ensures in
-    c.turn.ensures ∙ rw d (ap (begun sha256 (awaiting_of c.args.self)) e)
+    let d = c.start-digest.ensures.value ∙ ap sha256 (c.deref.ensures.value ∙ own) in
+    let e = rw (c.deref-2.ensures.value ∙ own) at c.test_task.ensures in
+    search rules
 
-pub returns-in-Err : goal.returns-in-Err
+pub returns : goal.returns
 unfolding after
-returns-in-Err c =
+returns c =
     let own = c.args.self.own_bytes in
-    let d = c.start-digest.ensures.value ∙ ap sha256 (c.as_slice.ensures.value ∙ own) in
-    let e = rw (c.as_slice-2.ensures.value ∙ own) at c.in-Err.ensures in
-    rw d (ap (begun sha256 (awaiting_of c.args.self)) e)
+    let d = c.start-digest.ensures.value ∙ ap sha256 (c.deref.ensures.value ∙ own) in
+    let e = rw (c.deref-2.ensures.value ∙ own) at c.test_task.ensures in
+    search rules

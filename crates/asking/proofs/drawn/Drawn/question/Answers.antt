@@ -1,13 +1,8 @@
-use Rattle.std.proofs.Common.{vec_items, ap, ◌∙◌}
-use Rattle.round.specs.Over.{out}
-use Rattle.asking.specs.Model.{drawn_of}
-use Rattle.asking.proofs.Answered.{question-asked, question-refused}
+use Rattle.std.proofs.Common.{rules}
 use Rattle.asking.proofs.drawn.Drawn.question.Goals as goal
 
-pub returns-in-Ok : goal.returns-in-Ok
-returns-in-Ok c =
-    question-asked (drawn_of c.args.self) (vec_items c.args.word) _ c.ask_bytes-ask.ensures (rw c.as_slice.ensures.value at c.in-Ok.ensures)
+pub returns-in_err-map_err : goal.returns-in_err-map_err
+returns-in_err-map_err c = let e = rw c.deref.ensures.value at c.test_boxes.ensures in search rules
 
-pub returns-in-Err : goal.returns-in-Err
-returns-in-Err c =
-    ap out c.stops.ensures ∙ question-refused (drawn_of c.args.self) (vec_items c.args.word) _ (rw c.as_slice.ensures.value at c.in-Err.ensures)
+pub returns : goal.returns
+returns c = let e = rw c.deref.ensures.value at c.test_boxes.ensures in search rules

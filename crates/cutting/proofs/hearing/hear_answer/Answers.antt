@@ -1,9 +1,0 @@
-use Rattle.std.proofs.Common.{refl, ap}
-use Rattle.tasks.specs.Reading.{got}
-use Rattle.cutting.proofs.hearing.hear_answer.Goals as goal
-
-pub returns-in-Ok : goal.returns-in-Ok
-returns-in-Ok c = let e = rw c.as_slice.ensures.value at c.in-Ok.ensures in rw (← e) (ap got c.answered.ensures)
-
-pub returns-in-Err : goal.returns-in-Err
-returns-in-Err c = let e = rw c.as_slice.ensures.value at c.in-Err.ensures in rw (← e) refl
