@@ -10,6 +10,10 @@ unfoldable pub place_of : List ℕ → List (String Global) → ℕ
 place_of name [] = 0
 place_of name (w ∷ ws) = cond (bytes_eq (string_bytes w) name) 0 (suc (place_of name ws))
 
+-- the place at which a word stands first, if it stands
+abbrev pub Stands : List ℕ → List (String Global) → Option ℕ → Type 0
+Stands name ws r = MatchOption r (place_of name ws ≡ length ws) (λ place. (place_of name ws ≡ place) × (place < length ws))
+
 -- what is left where n words are gone, from the first place of the name on
 abbrev pub without : ℕ → List ℕ → List (String Global) → List (String Global)
 without n name ws = take (place_of name ws) ws ++ drop (place_of name ws + n) ws

@@ -1,14 +1,18 @@
 // The words of the command line, taken one option after the other.
 #![tactic(auto)]
 
-ghost use Rattle.std.specs.Prelude.{◌≡◌, ◌≤◌, drop, vec_len};
+ghost use Rattle.std.specs.Prelude.{◌≡◌, false, drop};
 ghost use Rattle.std.specs.Result.{result_ok};
-ghost use Rattle.arguments.specs.Words.{place_of, Taken, Struck, ending};
+ghost use Rattle.arguments.specs.Words.{Stands, Taken, Struck, ending};
+
+use thiserror::Error;
 
 // A word that is wrong, or an option that is missing or has no value.
-#[derive(Drop)]
+#[derive(Debug, Drop, Error)]
 pub enum Wrong {
+    #[error("wrong argument: {0}")]
     Word(String),
+    #[error("missing argument: {0}")]
     Missing(&'static str),
 }
 
@@ -29,24 +33,18 @@ impl Arguments {
         Arguments { words }
     }
 
-    // The first place at which the name stands, or the number of words.
-    fn place_of(&self, name: &str) -> usize
-        ensures place { result ≡ place_of name.now self.now.words.items }
-        ensures bound { result ≤ vec_len self.now.words }
+    // The first place at which the name stands.
+    fn place_of(&self, name: &str) -> Option<usize>
+        ensures { Stands name.now self.now.words.items result }
     {
-        for (i, word) in self.words.iter().enumerate() {
-            if word.as_str() == name {
-                return i;
-            }
-        }
-        self.words.len()
+        self.words.iter().position(|word| word.as_str() == name)
     }
 
     // Takes an option and the word after it. Where the option or that word isn't there, nothing changes.
     pub fn take(&mut self, name: &str) -> Option<String>
         ensures { Taken name.now self.old.words.items self.new.words.items result }
     {
-        let place = self.place_of(name);
+        let place = self.place_of(name)?;
         if self.words.len() - place < 2 {
             return None;
         }
@@ -58,20 +56,17 @@ impl Arguments {
     pub fn need(&mut self, name: &'static str) -> Result<String, Wrong>
         ensures { Taken name.now self.old.words.items self.new.words.items (result_ok result) }
     {
-        match self.take(name) {
-            Some(value) => Ok(value),
-            None => Err(Wrong::Missing(name)),
-        }
+        self.take(name).ok_or(Wrong::Missing(name))
     }
 
     // Takes a word that stands alone, and says whether it was there.
     pub fn flag(&mut self, name: &str) -> bool
-        ensures { Struck name.now self.old.words.items self.new.words.items result }
+        ensures struck { Struck name.now self.old.words.items self.new.words.items result }
+        ensures none { result ≡ false → self.new.words.items ≡ self.old.words.items }
     {
-        let place = self.place_of(name);
-        if place == self.words.len() {
+        let Some(place) = self.place_of(name) else {
             return false;
-        }
+        };
         let _ = self.words.remove(place);
         true
     }

@@ -8,7 +8,7 @@ use Rattle.tasks.specs.Reading.{Got, got, refused}
 use Rattle.tasks.specs.Rounds.{asked_rounds}
 use Rattle.tasks.specs.Task.{within}
 use Rattle.command.specs.declared.problem.Problem.{Problem}
-use Rattle.command.specs.declared.problem.Problem.TheVariants.{Argument, File, Written, Fault, InFile, InRound, Unfit, Stream, Memory, NotBuilt}
+use Rattle.command.specs.declared.problem.Problem.TheVariants.{Argument, File, Written, Fault, InFile, InRound, Unfit, Stream, Memory}
 use Rattle.arguments.specs.declared.Wrong.TheVariants.{Word}
 
 -- the number that digits write, after those of n; none where another byte stands
@@ -39,7 +39,6 @@ Told text (InRound f r n) = ⊥
 Told text (Unfit u n) = ⊥
 Told text (Stream e) = ⊥
 Told text Memory = ⊥
-Told text (NotBuilt w) = ⊥
 
 abbrev pub Heard : String Global → Result Rounds Problem → Type 0
 Heard text (Ok n) = asked (string_bytes text) ≡ Some (got n.count)

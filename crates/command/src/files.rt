@@ -1,5 +1,6 @@
-// Files that a program reads: tasks, plans that fit them, and streams.
-ghost use Rattle.std.specs.Prelude.{◌≡◌, true, IfOk, IfErr, None};
+// Files that a program reads: tasks, and plans that fit them.
+ghost use Rattle.std.specs.Prelude.{◌≡◌, true, IfOk, IfErr, None, Ok};
+ghost use Rattle.std.specs.Fn.{FnOnceReturnsAt};
 ghost use Rattle.paths.specs.Plan.{fits};
 ghost use Rattle.tasks.specs.Model.{task_of, plan_of};
 ghost use Rattle.tasks.specs.Writing.{task_bytes, is_plan};
@@ -23,6 +24,14 @@ pub struct LoadedTask {
     pub bytes: Vec<u8>,
 }
 
+// What the bytes of a file were read as, and the file's name.
+#[derive(Drop)]
+struct Loaded<T> {
+    value: T,
+    bytes: Vec<u8>,
+    name: String,
+}
+
 fn read_at_most(rt: &HostRuntime, name: &str, most: u64) -> io::Result<Vec<u8>> {
     let mut bytes = Vec::new(rt.alloc());
     File::open(rt, name)?.take(most).read_to_end(&mut bytes)?;
@@ -40,13 +49,26 @@ fn in_file(fault: Fault, name: String) -> Problem
     }
 }
 
-// A file opened for reading.
-pub fn open(rt: &HostRuntime, name: String) -> Result<File, Problem>
-    ensures { IfErr result (λ p. names p name) }
+// So much of a file, read as a reader reads it, or the first fault.
+fn load<T, F: FnOnce(&[u8]) -> Result<T, Fault>>(
+    rt: &HostRuntime,
+    name: String,
+    most: u64,
+    read: F,
+) -> Result<Loaded<T>, Problem>
+    requires { F.IsAlwaysCallable read }
+    ensures value { IfOk result (λ l. FnOnceReturnsAt F.FnOnce read l.bytes.items (Ok l.value)) }
+    ensures name { IfOk result (λ l. l.name ≡ name) }
+    ensures told { IfErr result (λ p. names p name) }
+    ensures pair { IfErr result (λ p. told_pair p ≡ None) }
 {
-    match File::open(rt, name.as_str()) {
-        Ok(file) => Ok(file),
-        Err(error) => Err(Problem::File(name, error)),
+    let bytes = match read_at_most(rt, name.as_str(), most) {
+        Ok(bytes) => bytes,
+        Err(error) => return Err(Problem::File(name, error)),
+    };
+    match read(bytes.as_slice()) {
+        Ok(value) => Ok(Loaded { value, bytes, name }),
+        Err(fault) => Err(in_file(fault, name)),
     }
 }
 
@@ -55,31 +77,14 @@ pub fn load_task(rt: &HostRuntime, name: String) -> Result<LoadedTask, Problem>
     ensures bytes { IfOk result (λ l. task_bytes (task_of l.task) ≡ l.bytes.items) }
     ensures told { IfErr result (λ p. names p name) }
 {
-    let bytes = match read_at_most(rt, name.as_str(), TASK_BYTES) {
-        Ok(bytes) => bytes,
-        Err(error) => return Err(Problem::File(name, error)),
-    };
-    match read_task(rt.alloc(), bytes.as_slice()) {
-        Ok(task) => Ok(LoadedTask { task, bytes }),
-        Err(fault) => Err(in_file(fault, name)),
-    }
-}
-
-// The plan of the task in a file, whether it fits or not, or the first fault.
-fn load_plan(rt: &HostRuntime, task: &Task, name: String) -> Result<(Plan, String), Problem>
-    ensures plan { IfOk result (λ p. is_plan (task_of task.now) (plan_of p.0) ≡ true) }
-    ensures told { IfErr result (λ p. names p name) }
-    ensures pair { IfErr result (λ p. told_pair p ≡ None) }
-    ensures name { IfOk result (λ p. p.1 ≡ name) }
-{
-    let bytes = match read_at_most(rt, name.as_str(), PLAN_BYTES) {
-        Ok(bytes) => bytes,
-        Err(error) => return Err(Problem::File(name, error)),
-    };
-    match read_plan(rt.alloc(), task, bytes.as_slice()) {
-        Ok(plan) => Ok((plan, name)),
-        Err(fault) => Err(in_file(fault, name)),
-    }
+    let heap = rt.alloc();
+    let Loaded { value, bytes, .. } = load(
+        rt,
+        name,
+        TASK_BYTES,
+        move |bytes| read_task(heap, bytes),
+    )?;
+    Ok(LoadedTask { task: value, bytes })
 }
 
 // The plan in a file, which must fit the task. Where it doesn't, the first pair that it fails is told.
@@ -88,9 +93,12 @@ pub fn load_fitting_plan(rt: &HostRuntime, task: &Task, name: String) -> Result<
     ensures told { IfErr result (λ p. names p name) }
     ensures fails { IfErr result (λ p. Fails (task_of task.now) p) }
 {
-    let (plan, name) = load_plan(rt, task, name)?;
-    match first_unfit(task, &plan) {
-        None => Ok(plan),
+    let heap = rt.alloc();
+    let Loaded { value, name, .. } = load(rt, name, PLAN_BYTES, move |bytes| {
+        read_plan(heap, task, bytes)
+    })?;
+    match first_unfit(task, &value) {
+        None => Ok(value),
         Some(unfit) => Err(Problem::Unfit(unfit, name)),
     }
 }

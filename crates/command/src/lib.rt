@@ -1,10 +1,14 @@
-// What the four programs share: loading of files, the number of rounds, and how a problem is told.
+// What the four programs share: how they begin and end, loading and reading of files, the number of rounds, and how a problem is told.
 #![tactic(auto)]
 
 mod files;
+mod input;
 mod problem;
+mod program;
 mod rounds;
 
-pub use files::{LoadedTask, load_fitting_plan, load_task, open};
+pub use files::{LoadedTask, load_fitting_plan, load_task};
+pub use input::Input;
 pub use problem::{Ending, Problem, conclude, finish};
+pub use program::{Usage, exit_code, read_arguments};
 pub use rounds::read_rounds;

@@ -3,6 +3,7 @@ ghost use Rattle.std.specs.Prelude.{◌≡◌, is_ok};
 ghost use Rattle.command.specs.Endings.{is_well};
 
 use arguments::Wrong;
+use line::LineError;
 use std::alloc::{AllocError, AllocFailed};
 use std::{fmt, io};
 use tasks::{Fault, Unfit};
@@ -21,25 +22,24 @@ pub enum Problem {
     Unfit(Unfit, String),
     Stream(io::Error),
     Memory,
-    // What a program doesn't do yet.
-    NotBuilt(&'static str),
 }
 
 impl fmt::Display for Problem {
     fn fmt<W: fmt::Write>(&self, f: &mut fmt::Formatter<W>) -> fmt::Result {
         match self {
-            Problem::Argument(Wrong::Word(word)) => write!(f, "wrong argument: {word}"),
-            Problem::Argument(Wrong::Missing(name)) => write!(f, "missing argument: {name}"),
+            Problem::Argument(wrong) => write!(f, "{wrong}"),
             Problem::File(name, error) => write!(f, "can't read {name}: {error}"),
             Problem::Written(name, error) => write!(f, "can't write {name}: {error}"),
             Problem::Fault(fault) => write!(f, "{fault}"),
             Problem::InFile(fault, name) => write!(f, "{fault}, in {name}"),
             Problem::InRound(fault, round, name) => write!(f, "{fault}, round {round}, in {name}"),
             Problem::Unfit(unfit, name) => {
+                let Unfit {
+                    pair,
+                    first,
+                    second,
+                } = *unfit;
                 let fault = Fault::Unfit(*unfit);
-                let pair = unfit.pair;
-                let first = unfit.first;
-                let second = unfit.second;
                 write!(
                     f,
                     "{fault}, pair {pair}, trains {first} and {second}, in {name}"
@@ -47,7 +47,6 @@ impl fmt::Display for Problem {
             }
             Problem::Stream(error) => write!(f, "{error}"),
             Problem::Memory => f.write_str("out of memory"),
-            Problem::NotBuilt(what) => write!(f, "the files are good; {what} is not built yet"),
         }
     }
 }
@@ -76,6 +75,15 @@ impl From<io::Error> for Problem {
     }
 }
 
+impl From<LineError> for Problem {
+    fn from(error: LineError) -> Problem {
+        match error {
+            LineError::Stream(error) => Problem::Stream(error),
+            LineError::Memory => Problem::Memory,
+        }
+    }
+}
+
 impl From<Fault> for Problem {
     fn from(fault: Fault) -> Problem {
         match fault {
@@ -96,8 +104,8 @@ pub fn finish(rt: &HostRuntime, usage: &str, res: Result<(), Problem>) -> Result
     Err(())
 }
 
-// How a program that had no problem ended: all is well, or what it told is not as one would have it.
-#[derive(Clone, Copy)]
+// How a program that had no problem ended: all is well, or what it told is not as one would have it. The worse is the greater.
+#[derive(Clone, Copy, PartialEq, Eq, PartialOrd, Ord)]
 pub enum Ending {
     Well,
     Ill,

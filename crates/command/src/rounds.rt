@@ -12,13 +12,13 @@ use tasks::{MOST_ROUNDS, Rounds};
 fn with_digit(count: u64, digit: u8) -> Option<u64>
     ensures { result ≡ more count digit }
 {
-    if digit < 48 || digit > 57 {
+    if !digit.is_ascii_digit() {
         return None;
     }
     if count > MOST_ROUNDS as u64 {
         return Some(count);
     }
-    Some(count * 10 + (digit - 48) as u64)
+    Some(count * 10 + (digit - b'0') as u64)
 }
 
 fn number(text: &[u8]) -> Option<u64>
@@ -29,10 +29,7 @@ fn number(text: &[u8]) -> Option<u64>
     }
     let mut count = 0;
     for digit in text {
-        let Some(next) = with_digit(count, *digit) else {
-            return None;
-        };
-        count = next;
+        count = with_digit(count, *digit)?;
     }
     Some(count)
 }
@@ -44,8 +41,5 @@ pub fn read_rounds(text: String) -> Result<Rounds, Problem>
     let Some(count) = number(text.as_bytes()) else {
         return Err(Problem::Argument(Wrong::Word(text)));
     };
-    match Rounds::new(count) {
-        Ok(rounds) => Ok(rounds),
-        Err(fault) => Err(Problem::Fault(fault)),
-    }
+    Rounds::new(count).map_err(Problem::Fault)
 }

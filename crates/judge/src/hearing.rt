@@ -1,52 +1,39 @@
 // The words of a showing, read from their file one by one, and the drawn bytes with them.
-use command::{Problem, open};
+use command::{Input, Problem};
 use judging::{Judge, Verdict};
-use keeping::{Drawn, Wanted};
-use line::{LineError, read_word_from};
+use keeping::Drawn;
+use line::read_word_from;
 use std::alloc::Global;
-use std::fs::File;
-use std::io::BufReader;
 use tasks::Task;
 
+// `filled` is how many rounds have had their drawn bytes.
 #[derive(Drop)]
 pub struct Hearing {
     heap: Global,
-    file: BufReader<File>,
-    name: String,
+    words: Input,
+    drawn: Option<Drawn>,
+    filled: u32,
 }
 
 impl Hearing {
-    pub fn open(rt: &HostRuntime, name: String) -> Result<Hearing, Problem> {
-        Ok(Hearing {
-            heap: rt.alloc(),
-            file: BufReader::new(rt.alloc(), open(rt, name.clone()?)?).map_err(
-                |_| Problem::Memory,
-            )?,
-            name,
-        })
+    pub fn new(heap: Global, words: Input, drawn: Option<Drawn>) -> Hearing {
+        Hearing {
+            heap,
+            words,
+            drawn,
+            filled: 0,
+        }
     }
 
     // All words, to the end of the file or to where they can't be rounds.
-    pub fn all(
-        &mut self,
-        judge: Judge,
-        drawn: Option<Drawn>,
-        digest: [u8; 32],
-    ) -> Result<Verdict, Problem> {
-        let mut drawn = drawn;
-        let mut bytes = Vec::new(self.heap);
-        let mut judge = judge;
-        let mut filled = 0;
+    pub fn all(&mut self, mut judge: Judge, digest: [u8; 32]) -> Result<Verdict, Problem> {
         for _ in 0..u64::MAX {
             let word = self.word(&judge.task)?;
             if word.is_empty() {
                 break;
             }
-            if filled == judge.round {
-                fill(&mut drawn, &judge.task, &mut bytes)?;
-                filled = filled.saturating_add(1);
-            }
-            judge = match judge.take(word, bytes.as_slice()) {
+            self.fill(&judge)?;
+            judge = match judge.take(word, self.drawn()) {
                 Ok(judge) => judge,
                 Err(verdict) => return Ok(verdict),
             };
@@ -56,18 +43,27 @@ impl Hearing {
 
     fn word(&mut self, task: &Task) -> Result<Vec<u8>, Problem> {
         let mut word = Vec::new(self.heap);
-        match read_word_from(&mut self.file, task, &mut word) {
+        match read_word_from(&mut self.words.file, task, &mut word) {
             Ok(()) => Ok(word),
-            Err(LineError::Stream(error)) => Err(Problem::File(self.name.clone()?, error)),
-            Err(LineError::Memory) => Err(Problem::Memory),
+            Err(error) => Err(self.words.told(Problem::from(error))),
         }
     }
-}
 
-// The drawn bytes of the next round, where they are handed over.
-fn fill(drawn: &mut Option<Drawn>, task: &Task, bytes: &mut Vec<u8>) -> Result<(), Problem> {
-    match drawn {
-        Some(drawn) => drawn.fill(Wanted::Lot, task, bytes),
-        None => Ok(()),
+    // The drawn bytes of the round, once it begins, where they are handed over.
+    fn fill(&mut self, judge: &Judge) -> Result<(), Problem> {
+        if self.filled == judge.round {
+            if let Some(drawn) = &mut self.drawn {
+                drawn.lot(&judge.task)?;
+            }
+            self.filled = self.filled.saturating_add(1);
+        }
+        Ok(())
+    }
+
+    fn drawn(&self) -> &[u8] {
+        match &self.drawn {
+            Some(drawn) => drawn.bytes(),
+            None => &[],
+        }
     }
 }

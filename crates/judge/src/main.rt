@@ -6,26 +6,27 @@ mod hearing;
 mod telling;
 
 use arguments::{Arguments, Wrong};
-use command::{Ending, LoadedTask, Problem, conclude, load_fitting_plan, load_task};
+use command::{
+    Ending, Input, LoadedTask, Problem, Usage, exit_code, load_fitting_plan, load_task, read_arguments,
+};
 use digest::digest_in;
 use drawing::default_rounds;
 use hearing::Hearing;
 use judging::Judge;
 use keeping::Drawn;
-use std::env;
 use std::process::ExitCode;
 use tasks::{Fault, Plan, Task};
 use telling::tell;
 
-const USAGE: &str = "usage: judge --task FILE --words FILE --digest HEX [--plan FILE --drawn FILE]";
-
-const OPTIONS: &str =
-    "  --task FILE    the task: trains, paths, and the pairs of trains that may not share a path
+const USAGE: Usage = Usage {
+    call: "usage: judge --task FILE --words FILE --digest HEX [--plan FILE --drawn FILE]",
+    options: "  --task FILE    the task: trains, paths, and the pairs of trains that may not share a path
   --words FILE   all words that were sent in the showing
   --digest HEX   the last digest of the showing, 64 hexadecimal digits
   --plan FILE    the planner's plan, where the planner hands it over
   --drawn FILE   the planner's drawn bytes, together with the plan
-  --help         print this and do nothing else";
+  --help         print this and do nothing else",
+};
 
 #[derive(Drop)]
 struct HandedOver {
@@ -62,76 +63,71 @@ fn read_options(mut arguments: Arguments) -> Result<Options, Wrong> {
     Ok(options)
 }
 
-// A plan that is handed over, or its fault, which is told in its place: after all that the words say.
+// What the planner handed over: its plan, or the fault of the plan, which is told in its place, after all that the words say; and its drawn bytes.
 #[derive(Drop)]
-enum Handed {
-    Nothing,
-    Plan(Plan),
-    Faulty(Problem),
+struct Handed {
+    plan: Result<Plan, Problem>,
+    drawn: Drawn,
 }
 
 // The judge doesn't tell the pair that a plan fails.
-fn load_plan(rt: &HostRuntime, task: &Task, name: String) -> Result<Handed, Problem> {
+fn load_plan(
+    rt: &HostRuntime,
+    task: &Task,
+    name: String,
+) -> Result<Result<Plan, Problem>, Problem> {
     match load_fitting_plan(rt, task, name) {
-        Ok(plan) => Ok(Handed::Plan(plan)),
-        Err(Problem::Unfit(unfit, file)) => Ok(Handed::Faulty(Problem::InFile(
-            Fault::Unfit(unfit),
-            file,
-        ))),
-        Err(Problem::InFile(fault, file)) => Ok(Handed::Faulty(Problem::InFile(fault, file))),
+        Ok(plan) => Ok(Ok(plan)),
+        Err(Problem::Unfit(unfit, file)) => Ok(Err(Problem::InFile(Fault::Unfit(unfit), file))),
+        Err(Problem::InFile(fault, file)) => Ok(Err(Problem::InFile(fault, file))),
         Err(other) => Err(other),
     }
 }
 
-fn judge(rt: &HostRuntime, options: Options) -> Result<Ending, Problem> {
+fn open_handed_over(
+    rt: &HostRuntime,
+    task: &Task,
+    handed_over: HandedOver,
+) -> Result<Handed, Problem> {
+    let HandedOver { plan, drawn } = handed_over;
+    Ok(Handed {
+        plan: load_plan(rt, task, plan)?,
+        drawn: Drawn::open(rt, drawn)?,
+    })
+}
+
+fn judge(rt: &HostRuntime) -> Result<Ending, Problem> {
+    let Some(arguments) = read_arguments(rt, USAGE)? else {
+        return Ok(Ending::Well);
+    };
     let Options {
         task,
         words,
         digest,
         handed_over,
-    } = options;
+    } = read_options(arguments)?;
     let LoadedTask { task, .. } = load_task(rt, task)?;
-    let Some(last) = digest_in(digest.as_bytes()) else {
+    let Some(last) = digest_in(digest.as_str()) else {
         return Err(Problem::Argument(Wrong::Word(digest)));
     };
     let default = default_rounds(task.pairs.len() as u16);
-    let mut hearing = Hearing::open(rt, words)?;
-    let mut plan = None;
-    let mut faulty = None;
-    let mut drawn = None;
-    if let Some(
-        HandedOver {
-            plan: name,
-            drawn: file,
+    let words = Input::open(rt, words)?;
+    let handed = match handed_over {
+        Some(names) => Some(open_handed_over(rt, &task, names)?),
+        None => None,
+    };
+    let (plan, faulty, drawn) = match handed {
+        None => (None, None, None),
+        Some(Handed { plan, drawn }) => match plan {
+            Ok(plan) => (Some(plan), None, Some(drawn)),
+            Err(problem) => (None, Some(problem), Some(drawn)),
         },
-    ) = handed_over
-    {
-        match load_plan(rt, &task, name)? {
-            Handed::Plan(loaded) => plan = Some(loaded),
-            Handed::Faulty(problem) => faulty = Some(problem),
-            Handed::Nothing => {}
-        }
-        drawn = Some(Drawn::open(rt, file)?);
-    }
+    };
     let judge = Judge::start(rt.alloc(), task, plan)?;
-    let verdict = hearing.all(judge, drawn, last)?;
+    let verdict = Hearing::new(rt.alloc(), words, drawn).all(judge, last)?;
     tell(rt, verdict, default, faulty)
 }
 
-fn run(rt: &HostRuntime) -> Result<Ending, Problem> {
-    let mut arguments = Arguments::new(env::args(rt)?.collect(rt.alloc())?);
-    if arguments.flag("--help") {
-        rt.println(USAGE)?;
-        rt.println(OPTIONS)?;
-        return Ok(Ending::Well);
-    }
-    judge(rt, read_options(arguments)?)
-}
-
-// What there is to tell was told, so no error is handed on.
 fn main(rt: HostRuntime) -> ExitCode {
-    match conclude(&rt, USAGE, run(&rt)) {
-        Ok(()) => ExitCode::SUCCESS,
-        Err(()) => ExitCode::FAILURE,
-    }
+    exit_code(&rt, USAGE, judge(&rt))
 }

@@ -32,7 +32,7 @@ pub fn tell(
                     Ending::Ill
                 }
             };
-            Ok(both(first, second))
+            Ok(first.max(second))
         }
     }
 }
@@ -68,11 +68,4 @@ fn tell_redrawn(rt: &HostRuntime, redrawn: Redrawn) -> Result<Ending, Problem> {
         )?,
     }
     Ok(Ending::Ill)
-}
-
-fn both(first: Ending, second: Ending) -> Ending {
-    match (first, second) {
-        (Ending::Well, Ending::Well) => Ending::Well,
-        _ => Ending::Ill,
-    }
 }

@@ -1,18 +1,22 @@
-// What the programs of both sides share: the line, the drawn bytes, the number of rounds, the book and the transcript, the progress, and how the end is told.
+// What the programs of both sides share: the options, the line, the drawn bytes, the number of rounds, the book and the transcript, the progress, the rounds in turn, and how the end is told.
 #![tactic(auto)]
 
 mod drawn;
 mod ending;
 mod hex;
 mod kept;
+mod options;
 mod progress;
 mod records;
 mod rounds;
+mod showing;
 mod talk;
 
-pub use drawn::{Drawn, Wanted};
+pub use drawn::Drawn;
 pub use ending::tell;
+pub use options::Options;
 pub use progress::Progress;
 pub use records::Records;
 pub use rounds::rounds_for;
+pub use showing::{Showing, Side, Stop};
 pub use talk::Line;

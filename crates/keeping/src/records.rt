@@ -3,6 +3,7 @@ use super::hex::Hex;
 use super::kept::Kept;
 use command::Problem;
 use std::alloc::Global;
+use std::fmt::Display;
 
 #[derive(Drop)]
 pub struct Records {
@@ -27,12 +28,7 @@ impl Records {
 
     // The first line of the book.
     pub fn begin(&mut self, digest: [u8; 32]) -> Result<(), Problem> {
-        let Some(book) = &mut self.book else {
-            return Ok(());
-        };
-        let digest = Hex { digest };
-        book.write(format!(in self.heap; "task {digest}\n")?.as_bytes())?;
-        book.flush()
+        self.book_line("task", digest)
     }
 
     // The words of a closed round.
@@ -55,11 +51,15 @@ impl Records {
 
     // The book's line for a closed round.
     pub fn digest(&mut self, round: u32, digest: [u8; 32]) -> Result<(), Problem> {
+        self.book_line(round, digest)
+    }
+
+    fn book_line<D: Display + Drop>(&mut self, name: D, digest: [u8; 32]) -> Result<(), Problem> {
         let Some(book) = &mut self.book else {
             return Ok(());
         };
         let digest = Hex { digest };
-        book.write(format!(in self.heap; "{round} {digest}\n")?.as_bytes())?;
+        book.write(format!(in self.heap; "{name} {digest}\n")?.as_bytes())?;
         book.flush()
     }
 }

@@ -1,6 +1,6 @@
 // The line to the other side: its words on standard input, one's own on standard output.
 use command::Problem;
-use line::{LineError, read_word_from};
+use line::read_word_from;
 use std::io::{BufReader, Stdin, Write};
 use tasks::Task;
 
@@ -28,10 +28,7 @@ impl<'a> Line<'a> {
     // The next word, or what is there of it where the input ends, and nothing after it.
     pub fn hear(&mut self, task: &Task) -> Result<Vec<u8>, Problem> {
         let mut word = Vec::new(self.rt.alloc());
-        match read_word_from(&mut self.input, task, &mut word) {
-            Ok(()) => Ok(word),
-            Err(LineError::Stream(error)) => Err(Problem::Stream(error)),
-            Err(LineError::Memory) => Err(Problem::Memory),
-        }
+        read_word_from(&mut self.input, task, &mut word)?;
+        Ok(word)
     }
 }

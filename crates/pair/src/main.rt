@@ -1,13 +1,11 @@
 // The pair: from the coins of one plan it makes the coins of another plan that show the same, and prints them.
 #![tactic(auto)]
 
-mod source;
-
 use arguments::{Arguments, Wrong};
-use command::{LoadedTask, Problem, finish, load_fitting_plan, load_task};
+use command::{
+    Ending, Input, LoadedTask, Problem, Usage, exit_code, load_fitting_plan, load_task, read_arguments,
+};
 use pairing::{Plans, ask_in};
-use source::Source;
-use std::env;
 use std::io::{BufWriter, Write};
 use std::process::ExitCode;
 use tasks::{Fault, MOST_ROUNDS, Task};
@@ -15,15 +13,15 @@ use tasks::{Fault, MOST_ROUNDS, Task};
 // The length of a word that asks for a pair.
 const ASK_BYTES: u64 = 7;
 
-const USAGE: &str = "usage: pair --task FILE --first FILE --second FILE --coins FILE --asked FILE";
-
-const OPTIONS: &str =
-    "  --task FILE     the task: trains, paths, and the pairs of trains that may not share a path
+const USAGE: Usage = Usage {
+    call: "usage: pair --task FILE --first FILE --second FILE --coins FILE --asked FILE",
+    options: "  --task FILE     the task: trains, paths, and the pairs of trains that may not share a path
   --first FILE    a plan that fits the task
   --second FILE   another plan that fits the task
   --coins FILE    the coins of the first plan: for each round an order (a byte for each path) and the chances (32 bytes for each train)
   --asked FILE    the pairs that were asked for: the words that ask for them, of rounds 0, 1, ..
-  --help          print this and do nothing else";
+  --help          print this and do nothing else",
+};
 
 #[derive(Drop)]
 struct Options {
@@ -46,23 +44,30 @@ fn read_options(mut arguments: Arguments) -> Result<Options, Wrong> {
     Ok(options)
 }
 
+// Reads so many bytes in place of those that are there, or fewer where the file ends before.
+fn read(input: &mut Input, count: u64, bytes: &mut Vec<u8>) -> Result<(), Problem> {
+    bytes.clear();
+    input.read(count, bytes)?;
+    Ok(())
+}
+
 // The pair asked for in a round; none where the file has ended.
 fn next_question(
     plans: &Plans,
     round: u32,
-    asked: &mut Source,
+    asked: &mut Input,
     bytes: &mut Vec<u8>,
 ) -> Result<Option<u16>, Problem> {
-    asked.read(ASK_BYTES, bytes)?;
+    read(asked, ASK_BYTES, bytes)?;
     if bytes.is_empty() {
         return Ok(None);
     }
     if round == MOST_ROUNDS {
-        return Err(asked.told(round, Fault::TooManyRounds)?);
+        return Err(asked.in_round(Fault::TooManyRounds, round));
     }
     match ask_in(&plans.task, round, bytes.as_slice()) {
         Ok(question) => Ok(Some(question)),
-        Err(fault) => Err(asked.told(round, fault)?),
+        Err(fault) => Err(asked.in_round(fault, round)),
     }
 }
 
@@ -75,30 +80,30 @@ fn next_coin(
     plans: &Plans,
     round: u32,
     question: u16,
-    coins: &mut Source,
+    coins: &mut Input,
     bytes: &mut Vec<u8>,
 ) -> Result<(), Problem> {
-    coins.read(coin_bytes(&plans.task), bytes)?;
+    read(coins, coin_bytes(&plans.task), bytes)?;
     match plans.pair_coin(question, bytes.as_mut_slice()) {
         Ok(()) => Ok(()),
-        Err(fault) => Err(coins.told(round, fault)?),
+        Err(fault) => Err(coins.in_round(fault, round)),
     }
 }
 
 // After the last pair the coins must end too.
-fn end_of_coins(round: u32, coins: &mut Source, bytes: &mut Vec<u8>) -> Result<(), Problem> {
-    coins.read(1, bytes)?;
+fn end_of_coins(round: u32, coins: &mut Input, bytes: &mut Vec<u8>) -> Result<(), Problem> {
+    read(coins, 1, bytes)?;
     if bytes.is_empty() {
         return Ok(());
     }
-    Err(coins.told(round, Fault::Shape)?)
+    Err(coins.in_round(Fault::Shape, round))
 }
 
 fn make_coins(
     rt: &HostRuntime,
     plans: &Plans,
-    mut asked: Source,
-    mut coins: Source,
+    mut asked: Input,
+    mut coins: Input,
 ) -> Result<(), Problem> {
     let mut out = BufWriter::new(rt.alloc(), rt.stdout()).map_err(|_| Problem::Memory)?;
     let mut bytes = Vec::new(rt.alloc());
@@ -114,37 +119,27 @@ fn make_coins(
     Ok(())
 }
 
-fn pair(rt: &HostRuntime, options: Options) -> Result<(), Problem> {
+fn pair(rt: &HostRuntime) -> Result<Ending, Problem> {
+    let Some(arguments) = read_arguments(rt, USAGE)? else {
+        return Ok(Ending::Well);
+    };
     let Options {
         task,
         first,
         second,
         coins,
         asked,
-    } = options;
+    } = read_options(arguments)?;
     let LoadedTask { task, .. } = load_task(rt, task)?;
     let first = load_fitting_plan(rt, &task, first)?;
     let second = load_fitting_plan(rt, &task, second)?;
     let plans = Plans::new(task, first, second)?;
-    let coins = Source::open(rt, coins)?;
-    let asked = Source::open(rt, asked)?;
-    make_coins(rt, &plans, asked, coins)
+    let coins = Input::open(rt, coins)?;
+    let asked = Input::open(rt, asked)?;
+    make_coins(rt, &plans, asked, coins)?;
+    Ok(Ending::Well)
 }
 
-fn run(rt: &HostRuntime) -> Result<(), Problem> {
-    let mut arguments = Arguments::new(env::args(rt)?.collect(rt.alloc())?);
-    if arguments.flag("--help") {
-        rt.println(USAGE)?;
-        rt.println(OPTIONS)?;
-        return Ok(());
-    }
-    pair(rt, read_options(arguments)?)
-}
-
-// What there is to tell was told, so no error is handed on.
 fn main(rt: HostRuntime) -> ExitCode {
-    match finish(&rt, USAGE, run(&rt)) {
-        Ok(()) => ExitCode::SUCCESS,
-        Err(()) => ExitCode::FAILURE,
-    }
+    exit_code(&rt, USAGE, pair(&rt))
 }

@@ -1,0 +1,64 @@
+// A file that is read as a program goes on, told by its name.
+ghost use Rattle.std.specs.Prelude.{◌≡◌, ◌+◌, IfOk, IfErr, vec_len};
+ghost use Rattle.std.specs.Io.{StartsWith};
+ghost use Rattle.command.specs.Files.{names, NamedBy, InFileOf};
+
+use super::problem::Problem;
+use std::fs::File;
+use std::io::{BufReader, Read};
+use tasks::Fault;
+
+#[derive(Drop)]
+pub struct Input {
+    pub file: BufReader<File>,
+    pub name: String,
+}
+
+impl Input {
+    // The file with this name.
+    pub fn open(rt: &HostRuntime, name: String) -> Result<Input, Problem>
+        ensures ok { IfOk result (λ input. input.name ≡ name) }
+        ensures told { IfErr result (λ p. names p name) }
+    {
+        let file = match File::open(rt, name.as_str()) {
+            Ok(file) => file,
+            Err(error) => return Err(Problem::File(name, error)),
+        };
+        let file = BufReader::new(rt.alloc(), file).map_err(|_| Problem::Memory)?;
+        Ok(Input { file, name })
+    }
+
+    // Adds so many bytes, or fewer where the file ends before, and answers how many.
+    pub fn read(&mut self, count: u64, bytes: &mut Vec<u8>) -> Result<usize, Problem>
+        ensures count { IfOk result (λ n. vec_len bytes.new ≡ vec_len bytes.old + n) }
+        ensures front { StartsWith bytes.new.items bytes.old.items }
+    {
+        match self.file.by_ref().take(count).read_to_end(bytes) {
+            Ok(size) => Ok(size),
+            Err(error) => Err(self.told(Problem::Stream(error))),
+        }
+    }
+
+    // A problem of a stream, told as one of this file.
+    pub fn told(&self, problem: Problem) -> Problem
+        ensures { InFileOf self.now.name problem result }
+    {
+        match problem {
+            Problem::Stream(error) => match self.name.clone() {
+                Ok(name) => Problem::File(name, error),
+                Err(_) => Problem::Memory,
+            },
+            other => other,
+        }
+    }
+
+    // A fault of a round in this file.
+    pub fn in_round(&self, fault: Fault, round: u32) -> Problem
+        ensures { NamedBy self.now.name (λ name p. p ≡ Problem.InRound fault round name) result }
+    {
+        match self.name.clone() {
+            Ok(name) => Problem::InRound(fault, round, name),
+            Err(_) => Problem::Memory,
+        }
+    }
+}

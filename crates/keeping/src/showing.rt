@@ -1,0 +1,117 @@
+// A showing, as both sides go through it.
+ghost use Rattle.std.specs.Prelude.{◌≡◌, ◌^◌, ◌≤◌, IfOk, None};
+ghost use Rattle.round.specs.Over.{outcome_of};
+ghost use Rattle.keeping.specs.Endings.{ending_of};
+
+use super::drawn::Drawn;
+use super::ending::tell;
+use super::options::Options;
+use super::progress::Progress;
+use super::records::Records;
+use super::rounds::rounds_for;
+use super::talk::Line;
+use command::{Ending, Problem};
+use round::Over;
+use tasks::{Fault, MOST_ROUNDS, Rounds};
+
+#[derive(Drop)]
+pub struct Showing<'a> {
+    pub rt: &'a HostRuntime,
+    pub line: Line<'a>,
+    pub drawn: Drawn,
+    pub records: Records,
+    pub progress: Progress,
+    pub rounds: Rounds,
+}
+
+impl<'a> Showing<'a> {
+    // With as many rounds as the options say, or the default.
+    pub fn open(
+        rt: &'a HostRuntime,
+        options: Options,
+        default: u32,
+    ) -> Result<Showing<'a>, Problem>
+        ensures { options.rounds ≡ None → default ≤ 2 ^ 24 → IfOk result (λ s. s.rounds.count ≡ default) }
+    {
+        let Options {
+            drawn,
+            rounds,
+            book,
+            words,
+            progress,
+        } = options;
+        let rounds = rounds_for(rounds, default)?;
+        Ok(Showing {
+            rt,
+            line: Line::new(rt)?,
+            drawn: Drawn::open(rt, drawn)?,
+            records: Records::create(rt, book, words)?,
+            progress: Progress::new(rt, progress, rounds.count),
+            rounds,
+        })
+    }
+
+    // A round is closed, with this digest.
+    pub fn close_round(&mut self, round: u32, digest: [u8; 32]) -> Result<(), Problem> {
+        self.records.digest(round, digest)?;
+        self.progress.done(self.rt, round.saturating_add(1));
+        Ok(())
+    }
+
+    // Tells the end. All is well where the asker was content in all rounds.
+    pub fn end(&self, over: Over) -> Ending
+        ensures { result ≡ ending_of (outcome_of over.outcome) }
+    {
+        self.progress.end(self.rt);
+        tell(self.rt, over)
+    }
+}
+
+// Why a side doesn't go on to another round.
+#[derive(Drop)]
+pub enum Stop {
+    Over(Over),
+    Problem(Problem),
+}
+
+impl From<Over> for Stop {
+    fn from(over: Over) -> Stop {
+        Stop::Over(over)
+    }
+}
+
+impl From<Problem> for Stop {
+    fn from(problem: Problem) -> Stop {
+        Stop::Problem(problem)
+    }
+}
+
+// A side: what it has before a round, and how it goes through one.
+pub trait Side {
+    type Ready: Drop;
+
+    fn round(&mut self, ready: Self::Ready) -> Result<Self::Ready, Stop>;
+
+    fn digest(ready: &Self::Ready) -> [u8; 32];
+
+    // The digest so far, or the last one.
+    fn digest_of(turn: &Result<Self::Ready, Over>) -> [u8; 32] {
+        match turn {
+            Ok(ready) => Self::digest(ready),
+            Err(over) => over.digest,
+        }
+    }
+
+    // All rounds, to the end.
+    fn run(&mut self, first: Result<Self::Ready, Over>) -> Result<Over, Problem> {
+        let mut turn = first.map_err(Stop::Over);
+        for _ in 0..=MOST_ROUNDS {
+            match turn {
+                Ok(ready) => turn = self.round(ready),
+                Err(Stop::Over(over)) => return Ok(over),
+                Err(Stop::Problem(problem)) => return Err(problem),
+            }
+        }
+        Err(Problem::Fault(Fault::TooManyRounds))
+    }
+}
