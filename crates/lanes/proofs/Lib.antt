@@ -1,3 +1,2 @@
 -- The lemmas that the proofs of several functions share.
 pub mod States
-pub mod Vectors

@@ -1,15 +1,15 @@
 // Eight texts of 39 bytes and their digests.
 ghost use Rattle.std.specs.Prelude.{◌≡◌, ℕ, ◌<◌, [], slice_index_or};
+ghost use Rattle.sha256.specs.Lane.{state_at};
 ghost use Rattle.sha256.specs.Sha256.{output as outputOf, sha256};
-ghost use Rattle.lanes.specs.Lane.{state_at};
+ghost use Rattle.lanes.specs.Lane.{lane};
 
-use crate::rounds::compress;
-use crate::schedule::last_words;
-use crate::state::Lanes;
-use sha256::{State, output};
+use crate::blocks::load;
+use sha256::{State, compress_words, initial, output};
+use std::simd::prelude::*;
 
-fn outputs(s: Lanes) -> [[u8; 32]; 8]
-    ensures { (j : ℕ) → j < 8 → slice_index_or result j [] ≡ outputOf (state_at s j) }
+fn outputs(s: State<u32x8>) -> [[u8; 32]; 8]
+    ensures { (j : ℕ) → j < 8 → slice_index_or result j [] ≡ outputOf (state_at lane s j) }
 {
     let a = s.a.to_array();
     let b = s.b.to_array();
@@ -39,6 +39,7 @@ fn outputs(s: Lanes) -> [[u8; 32]; 8]
 pub fn digests(texts: &[[u8; 39]; 8]) -> [[u8; 32]; 8]
     ensures { (j : ℕ) → j < 8 → slice_index_or result j [] ≡ sha256 (slice_index_or texts.now j []) }
 {
-    let last = last_words(texts);
-    outputs(compress(texts, last))
+    let mut w = [u32x8::splat(0); 64];
+    load(texts, &mut w);
+    outputs(compress_words(initial(), &mut w))
 }

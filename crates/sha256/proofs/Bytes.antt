@@ -1,10 +1,12 @@
 -- Numbers as bytes, and bytes put into a list one after the other.
-use Rattle.std.proofs.Common.{◌≡◌, ℕ, zero, suc, ◌+◌, ◌-◌, ◌*◌, ◌/◌, ◌%◌, ◌^◌, ◌<◌, ◌≤◌, List, [], ◌∷◌, ◌++◌, length, get_or, take, set, replicate, sym, refl, ap, ◌∙◌, div-one, arith, lt-length-set}
+use Rattle.std.proofs.Common.{◌≡◌, ℕ, zero, suc, ◌+◌, ◌-◌, ◌*◌, ◌/◌, ◌%◌, ◌^◌, ◌<◌, ◌≤◌, List, [], ◌∷◌, ◌++◌, length, get_or, take, drop, set, replicate, sym, refl, ap, ◌∙◌, add-zero, mul-zero, drop-drop, div-one, arith, lt-length-set}
 use lib.Pow.{mod-mod-pow}
+use Rattle.std.specs.Simd.{first_chunks}
+use Rattle.std.proofs.lemmas.Simd.{get_or-chunk}
 use Rattle.std.proofs.lemmas.Nat.{field_of}
 use Rattle.std.specs.List.{flat_map}
-use Rattle.std.proofs.lemmas.List.{append_assoc, flat_map_more, length-take-le, set_at, take_all, take_more, take_more_set}
-use Rattle.sha256.specs.Sha256.{bytes}
+use Rattle.std.proofs.lemmas.List.{append_assoc, drop-replicate, flat_map_more, length-append, length-take-le, set_at, take_all, take_at, take_more, take_more_set}
+use Rattle.sha256.specs.Sha256.{bytes, word}
 
 pub length-bytes : (k x : ℕ) → length (bytes k x) ≡ k
 unfolding bytes
@@ -41,6 +43,27 @@ bits_mod n t e =
     let s : (8 * t) % 2 ^ 64 ≡ (8 * n) % 2 ^ 64 = omega arith in
     sym (bytes-mod 8 64 (8 * t) (omega arith)) ∙ (ap (bytes 8) s ∙ bytes-mod 8 64 (8 * n) (omega arith))
 
+-- element i of a list that is cut into lists of k
+pub chunk_drop : (k : ℕ) (p d : List ℕ) (n i : ℕ) → i < n → get_or (first_chunks k n p) i d ≡ take k (drop (k * i) p)
+chunk_drop k p d zero i h = elim h [ ]
+chunk_drop k p d (suc n) zero h = ap (λ (m : ℕ). take k (drop m p)) (sym (mul-zero k))
+chunk_drop k p d (suc n) (suc i) h =
+    let e = chunk_drop k (drop k p) d n i (omega arith) in
+    let m : k + k * i ≡ k * suc i = omega arith in
+    e ∙ ap (take k) (drop-drop (k * i) k p ∙ ap (λ (m : ℕ). drop m p) m)
+
+-- the word of the four bytes q
+pub word_at : (b q : List ℕ) (t : ℕ)
+    → q ≡ take 4 (drop (4 * t) b) → get_or q 0 0 * 16777216 + get_or q 1 0 * 65536 + get_or q 2 0 * 256 + get_or q 3 0 ≡ word b t
+unfolding word
+word_at b q t e =
+    let r = get_or-chunk (4 * t) 4 b 0 0 (omega arith) in
+    let s = get_or-chunk (4 * t) 4 b 1 0 (omega arith) in
+    let u = get_or-chunk (4 * t) 4 b 2 0 (omega arith) in
+    let v = get_or-chunk (4 * t) 4 b 3 0 (omega arith) in
+    let z = add-zero (4 * t) in
+    cc
+
 -- one more byte is put
 pub take_put : (xs : List ℕ) (i j y : ℕ) → j ≡ i + 1 → i < length xs → take j (set xs i y) ≡ take i xs ++ y ∷ []
 take_put xs i j y e h = rw e (take_more_set xs i y h)
@@ -66,24 +89,14 @@ put_four xs i p q r s h =
 put_zero : (xs : List ℕ) (i k y : ℕ) → length xs ≡ i → set (xs ++ replicate (suc k) 0) i y ≡ xs ++ y ∷ replicate k 0
 put_zero xs i k y e = set_at xs 0 (replicate k 0) y i e
 
-pub front_more : (xs : List ℕ) (i x : ℕ)
-    → i < length xs → i < 64 → x ≡ get_or xs i 0
-    → set (take i xs ++ replicate (64 - i) 0) i x ≡ take (i + 1) xs ++ replicate (64 - (i + 1)) 0
-front_more xs i x h l e =
-    let k = 64 - (i + 1) in
-    let s : 64 - i ≡ suc k = omega arith in
-    let p = put_zero (take i xs) i k x (length-take-le i xs (omega arith)) in
-    let t = take_more xs i 0 h in
-    let a = append_assoc (take i xs) (x ∷ []) (replicate k 0) in
-    cc
-
-pub front_mark : (xs : List ℕ) (i y : ℕ)
-    → i ≡ length xs → i < 64 → set (take i xs ++ replicate (64 - i) 0) i y ≡ xs ++ y ∷ replicate (63 - length xs) 0
-front_mark xs i y e l =
+pub mark_after : (xs ys : List ℕ) (y : ℕ)
+    → ys ≡ xs ++ drop (0 + length xs) (replicate 64 0) → length xs < 64 → set ys (length xs) y ≡ xs ++ y ∷ replicate (63 - length xs) 0
+mark_after xs ys y e l =
     let k = 63 - length xs in
-    let s : 64 - i ≡ suc k = omega arith in
-    let p = put_zero xs i k y (sym e) in
-    let t = take_all i xs (omega arith) in
+    let z : 0 + length xs ≡ length xs = omega arith in
+    let d = drop-replicate {X = ℕ} (length xs) 64 0 in
+    let s : 64 - length xs ≡ suc k = omega arith in
+    let p = put_zero xs (length xs) k y refl in
     cc
 
 -- the four bytes b of the word x
@@ -116,13 +129,19 @@ tail_all b s z i n ei l ez h =
     let u = take_all i z (omega arith) in
     cc
 
--- the bytes of one more word
-pub words_more : (out was words : List ℕ) (i m x : ℕ)
-    → m ≡ 4 * i + 4 → i < length words → x ≡ get_or words i 0 → take (4 * i) was ≡ flat_map (bytes 4) (take i words)
-    → take (4 * i + 4) out ≡ take (4 * i) was ++ bytes 4 x → take m out ≡ flat_map (bytes 4) (take (i + 1) words)
-words_more out was words i m x em h ex e f =
+-- the bytes ys of one more word
+pub words_more : (out words ys z : List ℕ) (i : ℕ)
+    → i < length words → 4 * i + 4 ≤ length out → ys ≡ bytes 4 (get_or words i 0) → take (4 * i) out ≡ flat_map (bytes 4) (take i words)
+    → take (4 * (i + 1)) (take (4 * i) out ++ (ys ++ z)) ≡ flat_map (bytes 4) (take (i + 1) words)
+words_more out words ys z i h l ey e =
+    let x = get_or words i 0 in
     let t = take_more words i 0 h in
     let j = flat_map_more (bytes 4) [] (take i words) x in
+    let a = append_assoc (take (4 * i) out) ys z in
+    let ly : length ys ≡ 4 = ap length ey ∙ length-bytes 4 x in
+    let lo = length-take-le (4 * i) out (omega arith) in
+    let n : length (take (4 * i) out ++ ys) ≡ 4 * (i + 1) = omega (arith, length-append (take (4 * i) out) ys, ly, lo) in
+    let f = take_at (take (4 * i) out ++ ys) z (4 * (i + 1)) n in
     cc
 
 pub words-all : (words out : List ℕ) (i : ℕ)

@@ -1,5 +1,6 @@
 -- The lemmas that the proofs of several functions share.
 pub mod Bytes
+pub mod Lanes
 pub mod Messages
 pub mod Rounds
 pub mod Streams

@@ -1,26 +1,25 @@
 -- Blocks one after the other, and the digest of a message from what its whole blocks left.
-use Rattle.std.proofs.Common.{◌≡◌, ℕ, zero, suc, ◌+◌, ◌-◌, ◌*◌, ◌/◌, ◌%◌, ◌^◌, ◌<◌, ◌≤◌, List, [], ◌∷◌, ◌++◌, length, take, drop, replicate, sym, refl, ap, ◌∙◌, add-zero, add-one, arith}
+use Rattle.std.proofs.Common.{◌≡◌, ℕ, zero, suc, ◌+◌, ◌-◌, ◌*◌, ◌/◌, ◌%◌, ◌^◌, ◌<◌, ◌≤◌, List, [], ◌∷◌, ◌++◌, length, get_or, take, drop, replicate, sym, refl, ap, ◌∙◌, add-zero, add-one, arith}
 use lib.Seq.{drop-append-add}
+use Rattle.std.specs.Simd.{first_chunks}
 use Rattle.std.proofs.lemmas.List.{append_assoc, append-nil, drop-take, take-take, take_at, take-append-drop, length-append, length-replicate, length-drop, length-take-le, replicate-append-replicate}
 use Rattle.sha256.specs.declared.state.State.{State}
 use Rattle.sha256.specs.Sha256.{H0, bytes, zeros, padding, padded, block, compress, hashed, output, sha256}
-use Rattle.sha256.proofs.Bytes.{length-bytes, bits_mod}
+use Rattle.sha256.proofs.Bytes.{length-bytes, bits_mod, chunk_drop}
 
-pub hashed-none : (s : State) (p : List ℕ) → s ≡ hashed s p 0
+pub hashed-none : (s : State ℕ) (p : List ℕ) → s ≡ hashed s p 0
 unfolding hashed
 hashed-none s p = refl
 
-pub hashed-more : (s r : State) (p b : List ℕ) (n : ℕ)
+pub hashed-more : (s r : State ℕ) (p b : List ℕ) (n : ℕ)
     → s ≡ hashed r p n → b ≡ block p n → compress s b ≡ hashed r p (n + 1)
 unfolding hashed
 hashed-more s r p b n e f = rw add-one (cc)
 
 -- block i as the code cuts it
-pub block-cut : (p : List ℕ) (i : ℕ) → take (64 * i + 64 - 64 * i) (drop (64 * i) p) ≡ block p i
+pub chunk-block : (p d : List ℕ) (n i : ℕ) → i < n → get_or (first_chunks 64 n p) i d ≡ block p i
 unfolding block
-block-cut p i =
-    let e : 64 * i + 64 - 64 * i ≡ 64 = omega arith in
-    cc
+chunk-block p d n i h = chunk_drop 64 p d n i h
 
 -- the blocks of a message are those of a part from its front that is long enough
 block-take : (p : List ℕ) (n m : ℕ) → 64 * n + 64 ≤ m → block (take m p) n ≡ block p n
@@ -31,7 +30,7 @@ block-take p n m h =
     let t = take-take (64 * n + 64) m p h in
     cc
 
-hashed-take : (s : State) (p : List ℕ) (n m : ℕ) → 64 * n ≤ m → hashed s (take m p) n ≡ hashed s p n
+hashed-take : (s : State ℕ) (p : List ℕ) (n m : ℕ) → 64 * n ≤ m → hashed s (take m p) n ≡ hashed s p n
 unfolding hashed
 hashed-take s p zero m h = refl
 hashed-take s p (suc n) m h =
@@ -39,7 +38,7 @@ hashed-take s p (suc n) m h =
     let b = block-take p n m (omega arith) in
     cc
 
-pub hashed_front : (s : State) (p q : List ℕ) (n : ℕ) → 64 * n ≤ length p → hashed s (p ++ q) n ≡ hashed s p n
+pub hashed_front : (s : State ℕ) (p q : List ℕ) (n : ℕ) → 64 * n ≤ length p → hashed s (p ++ q) n ≡ hashed s p n
 hashed_front s p q n h =
     let a = hashed-take s (p ++ q) n (length p) h in
     let b = take_at p q (length p) refl in
@@ -53,7 +52,7 @@ block-after p q k n h =
     let d = drop-append-add p q (64 * n) in
     cc
 
-pub hashed-after : (s : State) (p q : List ℕ) (k n : ℕ)
+pub hashed-after : (s : State ℕ) (p q : List ℕ) (k n : ℕ)
     → length p ≡ 64 * k → hashed s (p ++ q) (k + n) ≡ hashed (hashed s p k) q n
 hashed-after s p q k zero h =
     let f = hashed_front s p q k (omega arith) in
@@ -74,7 +73,7 @@ block-whole : (p q : List ℕ) → length p ≡ 64 → block (p ++ q) 0 ≡ p
 unfolding block
 block-whole p q h = take_at p q 64 h
 
-pub one_block : (s : State) (p : List ℕ) → length p ≡ 64 → compress s p ≡ hashed s p (length p / 64)
+pub one_block : (s : State ℕ) (p : List ℕ) → length p ≡ 64 → compress s p ≡ hashed s p (length p / 64)
 one_block s p h =
     let b = block-whole p [] h in
     let a = append-nil p in
@@ -82,7 +81,7 @@ one_block s p h =
     let m = hashed-more s s p p 0 (hashed-none s p) (cc) in
     cc
 
-pub two_blocks : (s : State) (p q : List ℕ)
+pub two_blocks : (s : State ℕ) (p q : List ℕ)
     → length p ≡ 64 → length q ≡ 64 → compress (compress s p) q ≡ hashed s (p ++ q) (length (p ++ q) / 64)
 two_blocks s p q h l =
     let a = length-append p q in
@@ -157,7 +156,7 @@ length_sized b x h =
     let l = length-bytes 8 x in
     omega (arith, a, t, l)
 
-pub last_here : (s : State) (rest b z : List ℕ) (n t : ℕ)
+pub last_here : (s : State ℕ) (rest b z : List ℕ) (n t : ℕ)
     → n % 64 ≡ length rest → n % 2 ^ 64 ≡ t → length rest < 56 → b ≡ mark rest → z ≡ take 56 b ++ bytes 8 (8 * t)
     → compress s z ≡ hashed s (rest ++ padding n) (length (rest ++ padding n) / 64)
 last_here s rest b z n t e f h eb ez =
@@ -169,7 +168,7 @@ last_here s rest b z n t e f h eb ez =
     let o = one_block s z lz in
     cc
 
-pub last_next : (s : State) (rest b z : List ℕ) (n t : ℕ)
+pub last_next : (s : State ℕ) (rest b z : List ℕ) (n t : ℕ)
     → n % 64 ≡ length rest → n % 2 ^ 64 ≡ t → 56 ≤ length rest → length rest < 64 → b ≡ mark rest
     → z ≡ take 56 (replicate 64 0) ++ bytes 8 (8 * t)
     → compress (compress s b) z ≡ hashed s (rest ++ padding n) (length (rest ++ padding n) / 64)
@@ -207,9 +206,9 @@ length_rest m rest e =
     let d = length-drop (64 * (length m / 64)) m in
     omega (arith, l, d)
 
-pub sha256-left : (m rest : List ℕ) (s : State)
+pub sha256-left : (m rest : List ℕ) (s : State ℕ)
     → s ≡ hashed H0 m (length m / 64) → rest ≡ drop (64 * (length m / 64)) m
     → output (hashed s (rest ++ padding (length m)) (length (rest ++ padding (length m)) / 64)) ≡ sha256 m
 sha256-left m rest s es er =
-    ap (λ (t : State). output (hashed t (rest ++ padding (length m)) (length (rest ++ padding (length m)) / 64))) es
+    ap (λ (t : State ℕ). output (hashed t (rest ++ padding (length m)) (length (rest ++ padding (length m)) / 64))) es
     ∙ sha256-rest m rest (length m / 64) refl er

@@ -48,21 +48,21 @@ pub all_words : (b w : List ℕ) (n : ℕ) → n ≡ 48 → length w ≡ 64 → 
 all_words b w n e l h =
     sym (take_all 64 w (omega arith)) ∙ subst (λ (k : ℕ). take (k + 16) w ≡ schedule b k) e h
 
-pub no_steps : (s : State) (w : List ℕ) → s ≡ steps s w 0
+pub no_steps : (s : State ℕ) (w : List ℕ) → s ≡ steps s w 0
 unfolding steps
 no_steps s w = refl
 
-steps-more : (s : State) (w : List ℕ) (t : ℕ) → steps s w (t + 1) ≡ step (steps s w t) (get_or K t 0) (get_or w t 0)
+steps-more : (s : State ℕ) (w : List ℕ) (t : ℕ) → steps s w (t + 1) ≡ step (steps s w t) (get_or K t 0) (get_or w t 0)
 unfolding steps
 steps-more s w t = rw add-one
 
 -- a state s after t rounds is a state r after one more
-pub one_more : (start s r : State) (w : List ℕ) (t k x u : ℕ)
+pub one_more : (start s r : State ℕ) (w : List ℕ) (t k x u : ℕ)
     → s ≡ steps start w t → r ≡ step s k x → k ≡ get_or K t 0 → x ≡ get_or w t 0 → u ≡ t + 1 → r ≡ steps start w u
 one_more start s r w t k x u es er ek ex eu = let m = steps-more start w t in cc
 
 -- rounds read only the words before them
-pub steps_front : (s : State) (w v : List ℕ) (t : ℕ) → t ≤ length w → steps s (w ++ v) t ≡ steps s w t
+pub steps_front : (s : State ℕ) (w v : List ℕ) (t : ℕ) → t ≤ length w → steps s (w ++ v) t ≡ steps s w t
 unfolding steps
 steps_front s w v zero h = refl
 steps_front s w v (suc t) h =
@@ -79,7 +79,7 @@ length-schedule b (suc n) =
     omega (arith, a, e)
 
 -- the sixteen words of the block and as many rounds
-pub midway_first : (start s : State) (b w : List ℕ) → take 16 w ≡ schedule b 0 → s ≡ steps start w 16 → Midway start b s w 0
+pub midway_first : (start s : State ℕ) (b w : List ℕ) → take 16 w ≡ schedule b 0 → s ≡ steps start w 16 → Midway start b s w 0
 midway_first start s b w e es =
     let a = take-append-drop 16 w in
     let l = length-schedule b 0 in
@@ -87,7 +87,7 @@ midway_first start s b w e es =
     record { words = e; state = cc }
 
 -- one more word and one more round
-pub midway_more : (start s r : State) (b w : List ℕ) (n m k x : ℕ)
+pub midway_more : (start s r : State ℕ) (b w : List ℕ) (n m k x : ℕ)
     → Midway start b s w n → m ≡ n + 1 → n + 16 < length w → x ≡ next w n → k ≡ get_or K (n + 16) 0 → r ≡ step s k x
     → Midway start b r (set w (n + 16) x) m
 midway_more start s r b w n m k x h em l ex ek er =
@@ -103,10 +103,10 @@ midway_more start s r b w n m k x h em l ex ek er =
       state = (let q = h.state in cc);
     }
 
-pub midway_at : {start s : State} {b w : List ℕ} (n m : ℕ) → n ≡ m → Midway start b s w n → Midway start b s w m
+pub midway_at : {start s : State ℕ} {b w : List ℕ} (n m : ℕ) → n ≡ m → Midway start b s w n → Midway start b s w m
 midway_at {start} {s} {b} {w} n m e h = subst (λ (k : ℕ). Midway start b s w k) e h
 
-pub midway_all : (start s : State) (b w : List ℕ) (n : ℕ) → n ≡ 48 → Midway start b s w n → sum start s ≡ compress start b
+pub midway_all : (start s : State ℕ) (b w : List ℕ) (n : ℕ) → n ≡ 48 → Midway start b s w n → sum start s ≡ compress start b
 unfolding compress
 midway_all start s b w n e h =
     let q = h.state in

@@ -62,7 +62,7 @@ module _ (m part front rest tail : List ℕ) (held : ℕ) (eh : held ≡ length 
       let t = ap length et ∙ length-drop (64 * (length rest / 64)) rest in
       omega (arith, e, t, length-first)
 
-  long-first : (s : State) (b full : List ℕ)
+  long-first : (s : State ℕ) (b full : List ℕ)
       → s ≡ hashed H0 m (length m / 64) → take held b ≡ drop (64 * (length m / 64)) m
       → take (held + length front) full ≡ take held b ++ front → length full ≡ 64
       → compress s full ≡ hashed H0 (m ++ front) (length m / 64 + 1)
@@ -76,7 +76,7 @@ module _ (m part front rest tail : List ℕ) (held : ℕ) (eh : held ≡ length 
       let h = hashed_front H0 m front q (omega arith) in
       hashed-more s H0 (m ++ front) full q (cc) (cc)
 
-  pub long-state : (s s1 s2 : State) (b full : List ℕ)
+  pub long-state : (s s1 s2 : State ℕ) (b full : List ℕ)
       → s ≡ hashed H0 m (length m / 64) → take held b ≡ drop (64 * (length m / 64)) m
       → take (held + length front) full ≡ take held b ++ front → length full ≡ 64 → s1 ≡ compress s full
       → s2 ≡ hashed s1 rest (length rest / 64) → s2 ≡ hashed H0 (m ++ part) (length (m ++ part) / 64)

@@ -1,60 +1,58 @@
-// One block: the message schedule, the sixty-four rounds and the sum.
+// One block of each message: the message schedule, the sixty-four rounds and the sum.
 ghost use Rattle.std.specs.Prelude.{◌≡◌, ℕ, ◌+◌, ◌*◌, ◌<◌, ◌≤◌, List, length, take};
+ghost use Rattle.sha256.specs.declared.state.State.{State};
+ghost use Rattle.sha256.specs.Lane.{column, state_at};
 ghost use Rattle.sha256.specs.Midway.{Midway};
-ghost use Rattle.sha256.specs.Sha256.{word as word_of, next as next_of, schedule as scheduled, step as stepped, steps, sum as sum_of, compress as compressed};
+ghost use Rattle.sha256.specs.Sha256.{H0, next as next_of, schedule as scheduled, step as stepped, steps, sum as sum_of, compress as compressed};
 
 use crate::state::State;
-use crate::words::{big_sigma0, big_sigma1, ch, constant, maj, small_sigma0, small_sigma1};
+use crate::words::{Words, big_sigma0, big_sigma1, ch, constant, maj, small_sigma0, small_sigma1};
 
-fn word(block: &[u8], t: usize) -> u32
-    requires { 4 * t + 4 ≤ length block.now }
-    ensures { result ≡ word_of block.now t }
+// The hash value before the first block, of each message.
+#[tactic(auto, using(crate::proofs::Lanes::same_states), unfolding(crate::specs::Sha256::H0, crate::specs::Lane::state_at))]
+pub fn initial<W: Words>() -> State<W>
+    ensures { (j : ℕ) → j < W.lanes → state_at W.lane result j ≡ H0 }
 {
-    u32::from_be_bytes([
-        block[4 * t],
-        block[4 * t + 1],
-        block[4 * t + 2],
-        block[4 * t + 3],
-    ])
+    State {
+        a: W::splat(0x6a09e667),
+        b: W::splat(0xbb67ae85),
+        c: W::splat(0x3c6ef372),
+        d: W::splat(0xa54ff53a),
+        e: W::splat(0x510e527f),
+        f: W::splat(0x9b05688c),
+        g: W::splat(0x1f83d9ab),
+        h: W::splat(0x5be0cd19),
+    }
 }
 
-fn next(w: &[u32; 64], n: usize) -> u32
+#[tactic(auto, using(crate::proofs::Lanes::in_column), unfolding(crate::specs::Sha256::next))]
+fn next<W: Words>(w: &[W; 64], n: usize) -> W
     requires { n < 48 }
-    ensures { result ≡ next_of w.now n }
+    ensures { (j : ℕ) → j < W.lanes → W.lane result j ≡ next_of (column W.lane w.now j) n }
 {
     small_sigma1(w[n + 14])
-        .wrapping_add(w[n + 9])
-        .wrapping_add(small_sigma0(w[n + 1]))
-        .wrapping_add(w[n])
+        .plus(w[n + 9])
+        .plus(small_sigma0(w[n + 1]))
+        .plus(w[n])
 }
 
-fn loaded(block: &[u8]) -> [u32; 64]
-    requires { length block.now ≡ 64 }
-    ensures { take 16 result ≡ scheduled block.now 0 }
-{
-    let mut w = [0; 64];
-    for t in 0..16 {
-        w[t] = word(block, t);
-    }
-    w
-}
-
-fn step(s: State, k: u32, w: u32) -> State
-    ensures { result ≡ stepped s k w }
+#[tactic(auto, using(crate::proofs::Lanes::same_states), unfolding(crate::specs::Sha256::step, crate::specs::Sha256::T1, crate::specs::Sha256::T2, crate::specs::Lane::state_at))]
+fn step<W: Words>(s: State<W>, k: u32, w: W) -> State<W>
+    ensures { (j : ℕ) → j < W.lanes → state_at W.lane result j ≡ stepped (state_at W.lane s j) k (W.lane w j) }
 {
     let t1 = s
         .h
-        .wrapping_add(big_sigma1(s.e))
-        .wrapping_add(ch(s.e, s.f, s.g))
-        .wrapping_add(k)
-        .wrapping_add(w);
-    let t2 = big_sigma0(s.a).wrapping_add(maj(s.a, s.b, s.c));
+        .plus(big_sigma1(s.e))
+        .plus(ch(s.e, s.f, s.g))
+        .plus(W::splat(k))
+        .plus(w);
+    let t2 = big_sigma0(s.a).plus(maj(s.a, s.b, s.c));
     State {
-        a: t1.wrapping_add(t2),
+        a: t1.plus(t2),
         b: s.a,
         c: s.b,
         d: s.c,
-        e: s.d.wrapping_add(t1),
+        e: s.d.plus(t1),
         f: s.e,
         g: s.f,
         h: s.g,
@@ -62,9 +60,9 @@ fn step(s: State, k: u32, w: u32) -> State
 }
 
 // Eight rounds from round t on, so that the compiler renames the words and moves none.
-fn eight_steps(s: State, w: &[u32; 64], t: usize) -> State
+fn eight_steps<W: Words>(s: State<W>, w: &[W; 64], t: usize) -> State<W>
     requires { t + 8 ≤ 64 }
-    ensures { (start : State) → s ≡ steps start w.now t → result ≡ steps start w.now (t + 8) }
+    ensures { (j : ℕ) → j < W.lanes → (start : State ℕ) → state_at W.lane s j ≡ steps start (column W.lane w.now j) t → state_at W.lane result j ≡ steps start (column W.lane w.now j) (t + 8) }
 {
     let s1 = step(s, constant(t), w[t]);
     let s2 = step(s1, constant(t + 1), w[t + 1]);
@@ -76,25 +74,26 @@ fn eight_steps(s: State, w: &[u32; 64], t: usize) -> State
     step(s7, constant(t + 7), w[t + 7])
 }
 
-fn sum(s: State, r: State) -> State
-    ensures { result ≡ sum_of s r }
+#[tactic(auto, using(crate::proofs::Lanes::same_states), unfolding(crate::specs::Sha256::sum, crate::specs::Lane::state_at))]
+fn sum<W: Words>(s: State<W>, r: State<W>) -> State<W>
+    ensures { (j : ℕ) → j < W.lanes → state_at W.lane result j ≡ sum_of (state_at W.lane s j) (state_at W.lane r j) }
 {
     State {
-        a: s.a.wrapping_add(r.a),
-        b: s.b.wrapping_add(r.b),
-        c: s.c.wrapping_add(r.c),
-        d: s.d.wrapping_add(r.d),
-        e: s.e.wrapping_add(r.e),
-        f: s.f.wrapping_add(r.f),
-        g: s.g.wrapping_add(r.g),
-        h: s.h.wrapping_add(r.h),
+        a: s.a.plus(r.a),
+        b: s.b.plus(r.b),
+        c: s.c.plus(r.c),
+        d: s.d.plus(r.d),
+        e: s.e.plus(r.e),
+        f: s.f.plus(r.f),
+        g: s.g.plus(r.g),
+        h: s.h.plus(r.h),
     }
 }
 
 // The next word of the schedule and the round with it.
-fn next_step(s: State, w: &mut [u32; 64], n: usize) -> State
+fn next_step<W: Words>(s: State<W>, w: &mut [W; 64], n: usize) -> State<W>
     requires { n < 48 }
-    ensures { (start : State) (b : List ℕ) → Midway start b s w.old n → Midway start b result w.new (n + 1) }
+    ensures { (j : ℕ) → j < W.lanes → (start : State ℕ) (b : List ℕ) → Midway start b (state_at W.lane s j) (column W.lane w.old j) n → Midway start b (state_at W.lane result j) (column W.lane w.new j) (n + 1) }
 {
     let x = next(w, n);
     w[n + 16] = x;
@@ -102,9 +101,9 @@ fn next_step(s: State, w: &mut [u32; 64], n: usize) -> State
 }
 
 // Eight more words, each with its round, so that the processor works on both at a time.
-fn eight_next_steps(s: State, w: &mut [u32; 64], n: usize) -> State
+fn eight_next_steps<W: Words>(s: State<W>, w: &mut [W; 64], n: usize) -> State<W>
     requires { n + 8 ≤ 48 }
-    ensures { (start : State) (b : List ℕ) → Midway start b s w.old n → Midway start b result w.new (n + 8) }
+    ensures { (j : ℕ) → j < W.lanes → (start : State ℕ) (b : List ℕ) → Midway start b (state_at W.lane s j) (column W.lane w.old j) n → Midway start b (state_at W.lane result j) (column W.lane w.new j) (n + 8) }
 {
     let s1 = next_step(s, w, n);
     let s2 = next_step(s1, w, n + 1);
@@ -116,17 +115,14 @@ fn eight_next_steps(s: State, w: &mut [u32; 64], n: usize) -> State
     next_step(s7, w, n + 7)
 }
 
-// The hash value after the block.
-pub(crate) fn compress(s: State, block: &[u8]) -> State
-    requires { length block.now ≡ 64 }
-    ensures { result ≡ compressed s block.now }
+// The hash values after a block of each message, whose sixteen words are the first of w. The others are filled.
+pub fn compress_words<W: Words>(s: State<W>, w: &mut [W; 64]) -> State<W>
+    ensures { (j : ℕ) → j < W.lanes → (b : List ℕ) → take 16 (column W.lane w.old j) ≡ scheduled b 0 → state_at W.lane result j ≡ compressed (state_at W.lane s j) b }
 {
-    let mut w = loaded(block);
-    let first = eight_steps(s, &w, 0);
-    let mut r = eight_steps(first, &w, 8);
+    let first = eight_steps(s, w, 0);
+    let mut r = eight_steps(first, w, 8);
     for i in 0..6 {
-        let next = eight_next_steps(r, &mut w, 8 * i);
-        r = next;
+        r = eight_next_steps(r, w, 8 * i);
     }
     sum(s, r)
 }

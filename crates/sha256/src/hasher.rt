@@ -7,7 +7,7 @@ use crate::state::State;
 // bytes modulo 2^64.
 #[derive(Clone, Copy)]
 pub struct Hasher {
-    pub(crate) state: State,
+    pub(crate) state: State<u32>,
     pub(crate) block: [u8; 64],
     pub(crate) held: usize,
     pub(crate) total: u64,

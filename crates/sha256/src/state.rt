@@ -1,12 +1,12 @@
 // The eight words of a hash value, and of the working variables of a round.
 #[derive(Clone, Copy)]
-pub struct State {
-    pub a: u32,
-    pub b: u32,
-    pub c: u32,
-    pub d: u32,
-    pub e: u32,
-    pub f: u32,
-    pub g: u32,
-    pub h: u32,
+pub struct State<W> {
+    pub a: W,
+    pub b: W,
+    pub c: W,
+    pub d: W,
+    pub e: W,
+    pub f: W,
+    pub g: W,
+    pub h: W,
 }

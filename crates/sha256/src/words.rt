@@ -1,6 +1,78 @@
-// The six functions on words, and the table of constants.
-ghost use Rattle.std.specs.Prelude.{◌≡◌, ◌<◌, slice_index};
-ghost use Rattle.sha256.specs.Sha256.{Ch, Maj, Σ0, Σ1, σ0, σ1, K as constants};
+// Words, alone or side by side: the operations on them, the six functions, and the table of constants.
+ghost use Rattle.std.specs.Prelude.{◌≡◌, ℕ, ◌*◌, ◌^◌, ◌<◌, bit_and, slice_index};
+ghost use Rattle.std.specs.Mem.{type_size};
+ghost use Rattle.std.proofs.Common.{rules};
+ghost use Rattle.sha256.specs.Sha256.{◌⊞◌, ◌⊕◌, NOT, SHR, ROTR, Ch, Maj, Σ0, Σ1, σ0, σ1, K as constants};
+
+// A word, or one of each of several messages side by side, each in its lane.
+pub trait Words: Copy {
+    // how many lanes there are, and the word in lane j
+    ghost lanes: { ℕ };
+
+    ghost lane: { Self → ℕ → ℕ };
+
+    fn splat(x: u32) -> Self
+        ensures { (j : ℕ) → j < lanes → lane result j ≡ x };
+
+    fn plus(self, other: Self) -> Self
+        ensures { (j : ℕ) → j < lanes → lane result j ≡ lane self j ⊞ lane other j };
+
+    fn and(self, other: Self) -> Self
+        ensures { (j : ℕ) → j < lanes → lane result j ≡ bit_and (lane self j) (lane other j) };
+
+    fn xor(self, other: Self) -> Self
+        ensures { (j : ℕ) → j < lanes → lane result j ≡ lane self j ⊕ lane other j };
+
+    fn not(self) -> Self
+        ensures { (j : ℕ) → j < lanes → lane result j ≡ NOT (lane self j) };
+
+    fn shr(self, n: u32) -> Self
+        requires { n < 32 }
+        ensures { (j : ℕ) → j < lanes → lane result j ≡ SHR n (lane self j) };
+
+    fn rotr(self, n: u32) -> Self
+        requires { (0 < n) × (n < 32) }
+        ensures { (j : ℕ) → j < lanes → lane result j ≡ ROTR n (lane self j) };
+
+    // an array of 64 values fits in memory
+    ghost is_small: { 64 * type_size Self.row < 2 ^ 63 };
+}
+
+impl Words for u32 {
+    ghost lanes = { 1 };
+
+    ghost lane = { λ x _. x };
+
+    ghost is_small = { Prim.search rules };
+
+    fn splat(x: u32) -> u32 {
+        x
+    }
+
+    fn plus(self, other: u32) -> u32 {
+        self.wrapping_add(other)
+    }
+
+    fn and(self, other: u32) -> u32 {
+        self & other
+    }
+
+    fn xor(self, other: u32) -> u32 {
+        self ^ other
+    }
+
+    fn not(self) -> u32 {
+        !self
+    }
+
+    fn shr(self, n: u32) -> u32 {
+        self >> n
+    }
+
+    fn rotr(self, n: u32) -> u32 {
+        self.rotate_right(n)
+    }
+}
 
 pub const K: [u32; 64] = [
     0x428a2f98, 0x71374491, 0xb5c0fbcf, 0xe9b5dba5, 0x3956c25b, 0x59f111f1, 0x923f82a4, 0xab1c5ed5,
@@ -13,40 +85,42 @@ pub const K: [u32; 64] = [
     0x748f82ee, 0x78a5636f, 0x84c87814, 0x8cc70208, 0x90befffa, 0xa4506ceb, 0xbef9a3f7, 0xc67178f2,
 ];
 
-pub(crate) fn ch(x: u32, y: u32, z: u32) -> u32
-    ensures { result ≡ Ch x y z }
+#[tactic(auto, unfolding(crate::specs::Sha256::Ch))]
+pub(crate) fn ch<W: Words>(x: W, y: W, z: W) -> W
+    ensures { (j : ℕ) → j < W.lanes → W.lane result j ≡ Ch (W.lane x j) (W.lane y j) (W.lane z j) }
 {
-    (x & y) ^ (!x & z)
+    x.and(y).xor(x.not().and(z))
 }
 
-pub(crate) fn maj(x: u32, y: u32, z: u32) -> u32
-    ensures { result ≡ Maj x y z }
+#[tactic(auto, unfolding(crate::specs::Sha256::Maj))]
+pub(crate) fn maj<W: Words>(x: W, y: W, z: W) -> W
+    ensures { (j : ℕ) → j < W.lanes → W.lane result j ≡ Maj (W.lane x j) (W.lane y j) (W.lane z j) }
 {
-    (x & y) ^ (x & z) ^ (y & z)
+    x.and(y).xor(x.and(z)).xor(y.and(z))
 }
 
-pub(crate) fn big_sigma0(x: u32) -> u32
-    ensures { result ≡ Σ0 x }
+pub(crate) fn big_sigma0<W: Words>(x: W) -> W
+    ensures { (j : ℕ) → j < W.lanes → W.lane result j ≡ Σ0 (W.lane x j) }
 {
-    x.rotate_right(2) ^ x.rotate_right(13) ^ x.rotate_right(22)
+    x.rotr(2).xor(x.rotr(13)).xor(x.rotr(22))
 }
 
-pub(crate) fn big_sigma1(x: u32) -> u32
-    ensures { result ≡ Σ1 x }
+pub(crate) fn big_sigma1<W: Words>(x: W) -> W
+    ensures { (j : ℕ) → j < W.lanes → W.lane result j ≡ Σ1 (W.lane x j) }
 {
-    x.rotate_right(6) ^ x.rotate_right(11) ^ x.rotate_right(25)
+    x.rotr(6).xor(x.rotr(11)).xor(x.rotr(25))
 }
 
-pub(crate) fn small_sigma0(x: u32) -> u32
-    ensures { result ≡ σ0 x }
+pub(crate) fn small_sigma0<W: Words>(x: W) -> W
+    ensures { (j : ℕ) → j < W.lanes → W.lane result j ≡ σ0 (W.lane x j) }
 {
-    x.rotate_right(7) ^ x.rotate_right(18) ^ (x >> 3)
+    x.rotr(7).xor(x.rotr(18)).xor(x.shr(3))
 }
 
-pub(crate) fn small_sigma1(x: u32) -> u32
-    ensures { result ≡ σ1 x }
+pub(crate) fn small_sigma1<W: Words>(x: W) -> W
+    ensures { (j : ℕ) → j < W.lanes → W.lane result j ≡ σ1 (W.lane x j) }
 {
-    x.rotate_right(17) ^ x.rotate_right(19) ^ (x >> 10)
+    x.rotr(17).xor(x.rotr(19)).xor(x.shr(10))
 }
 
 pub(crate) fn constant(t: usize) -> u32

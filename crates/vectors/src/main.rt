@@ -4,19 +4,7 @@
 
 use lanes::digests;
 use sha256::{Hasher, digest};
-use std::{fmt, io};
-
-#[derive(Drop)]
-struct Hex([u8; 32]);
-
-impl fmt::Display for Hex {
-    fn fmt<W: fmt::Write>(&self, f: &mut fmt::Formatter<W>) -> fmt::Result {
-        for b in &self.0 {
-            write!(f, "{b:02x}")?;
-        }
-        Ok(())
-    }
-}
+use std::{array, io};
 
 fn published(rt: &HostRuntime) -> io::Result<()> {
     let messages: [&str; 4] = [
@@ -26,7 +14,7 @@ fn published(rt: &HostRuntime) -> io::Result<()> {
         "abcdefghbcdefghicdefghijdefghijkefghijklfghijklmghijklmnhijklmnoijklmnopjklmnopqklmnopqrlmnopqrsmnopqrstnopqrstu",
     ];
     for m in messages {
-        let d = Hex(digest(m.as_bytes()));
+        let d = hex::encode(rt.alloc(), digest(m.as_bytes()))?;
         println!(rt; "\"{m}\" {d}")?;
     }
     Ok(())
@@ -42,15 +30,6 @@ fn million() -> [u8; 32] {
     h.finish()
 }
 
-// The bytes 0, 1, 2 and so on.
-fn rising() -> [u8; 130] {
-    let mut m = [0; 130];
-    for i in 0..130u8 {
-        m[i as usize] = i;
-    }
-    m
-}
-
 // A message in three parts, the first of one byte where there is one.
 fn in_parts(m: &[u8]) -> [u8; 32] {
     let first = m.len().min(1);
@@ -62,16 +41,15 @@ fn in_parts(m: &[u8]) -> [u8; 32] {
     h.finish()
 }
 
+// Messages of the bytes 0, 1, 2 and so on.
 fn edges(rt: &HostRuntime) -> io::Result<()> {
-    let m = rising();
+    let m: [u8; 130] = array::from_fn(|i| i as u8);
     let lengths: [usize; 14] = [1, 54, 55, 56, 57, 63, 64, 65, 118, 119, 120, 127, 128, 129];
     for n in lengths {
-        if n <= m.len() {
-            let whole = Hex(digest(&m[0..n]));
-            let parts = Hex(in_parts(&m[0..n]));
-            println!(rt; "{n} bytes {whole}")?;
-            println!(rt; "{n} bytes in parts {parts}")?;
-        }
+        let whole = hex::encode(rt.alloc(), digest(&m[0..n]))?;
+        let parts = hex::encode(rt.alloc(), in_parts(&m[0..n]))?;
+        println!(rt; "{n} bytes {whole}")?;
+        println!(rt; "{n} bytes in parts {parts}")?;
     }
     Ok(())
 }
@@ -81,8 +59,8 @@ fn texts(rt: &HostRuntime) -> io::Result<()> {
     let all = digests(&[
         [0; 39], [1; 39], [2; 39], [3; 39], [4; 39], [5; 39], [6; 39], [7; 39],
     ]);
-    for j in 0..8 {
-        let d = Hex(all[j]);
+    for (j, text) in all.iter().enumerate() {
+        let d = hex::encode(rt.alloc(), *text)?;
         println!(rt; "text {j} {d}")?;
     }
     Ok(())
@@ -90,7 +68,7 @@ fn texts(rt: &HostRuntime) -> io::Result<()> {
 
 fn main(rt: HostRuntime) -> io::Result<()> {
     published(&rt)?;
-    let d = Hex(million());
+    let d = hex::encode(rt.alloc(), million())?;
     println!(rt; "a million times \"a\" {d}")?;
     edges(&rt)?;
     texts(&rt)

@@ -1,6 +1,6 @@
 -- All eight.
 use Rattle.std.proofs.Common.{arith}
-use Rattle.lanes.specs.Lane.{state_at}
+use Rattle.sha256.specs.Lane.{state_at}
 use Rattle.lanes.proofs.texts.outputs.Goals as goal
 
 pub returns : goal.returns

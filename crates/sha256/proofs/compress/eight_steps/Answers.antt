@@ -1,17 +1,19 @@
 -- Each round is one more.
-use Rattle.std.proofs.Common.{◌+◌, refl, arith}
-use Rattle.sha256.proofs.Rounds.{one_more}
+use Rattle.std.proofs.Common.{◌≡◌, ◌+◌, length, refl, arith}
+use Rattle.sha256.proofs.Lanes.{lane_more}
 use Rattle.sha256.proofs.compress.eight_steps.Goals as goal
 
 pub returns : goal.returns
-returns c = λ start e.
+returns g c = λ j l start e.
+    let lane = g.W.Words.lane in
     let w = c.args.w.now in
     let t = c.args.t in
-    let e1 = one_more start _ _ w t _ _ (t + 1) e c.step-s1.ensures c.constant.ensures refl refl in
-    let e2 = one_more start _ _ w (t + 1) _ _ (t + 2) e1 c.step-s2.ensures c.constant-2.ensures refl (omega arith) in
-    let e3 = one_more start _ _ w (t + 2) _ _ (t + 3) e2 c.step-s3.ensures c.constant-3.ensures refl (omega arith) in
-    let e4 = one_more start _ _ w (t + 3) _ _ (t + 4) e3 c.step-s4.ensures c.constant-4.ensures refl (omega arith) in
-    let e5 = one_more start _ _ w (t + 4) _ _ (t + 5) e4 c.step-s5.ensures c.constant-5.ensures refl (omega arith) in
-    let e6 = one_more start _ _ w (t + 5) _ _ (t + 6) e5 c.step-s6.ensures c.constant-6.ensures refl (omega arith) in
-    let e7 = one_more start _ _ w (t + 6) _ _ (t + 7) e6 c.step-s7.ensures c.constant-7.ensures refl (omega arith) in
-    one_more start _ _ w (t + 7) _ _ (t + 8) e7 c.step.ensures c.constant-8.ensures refl (omega arith)
+    let lw : length w ≡ 64 = c.type_inv.w in
+    let e1 = lane_more lane start _ _ w c.index-w-t.result j t _ (t + 1) (omega arith) e (c.step-s1.ensures j l) c.constant.ensures c.index-w-t.is refl in
+    let e2 = lane_more lane start _ _ w c.index-w-t-2.result j (t + 1) _ (t + 2) (omega arith) e1 (c.step-s2.ensures j l) c.constant-2.ensures c.index-w-t-2.is (omega arith) in
+    let e3 = lane_more lane start _ _ w c.index-w-t-3.result j (t + 2) _ (t + 3) (omega arith) e2 (c.step-s3.ensures j l) c.constant-3.ensures c.index-w-t-3.is (omega arith) in
+    let e4 = lane_more lane start _ _ w c.index-w-t-4.result j (t + 3) _ (t + 4) (omega arith) e3 (c.step-s4.ensures j l) c.constant-4.ensures c.index-w-t-4.is (omega arith) in
+    let e5 = lane_more lane start _ _ w c.index-w-t-5.result j (t + 4) _ (t + 5) (omega arith) e4 (c.step-s5.ensures j l) c.constant-5.ensures c.index-w-t-5.is (omega arith) in
+    let e6 = lane_more lane start _ _ w c.index-w-t-6.result j (t + 5) _ (t + 6) (omega arith) e5 (c.step-s6.ensures j l) c.constant-6.ensures c.index-w-t-6.is (omega arith) in
+    let e7 = lane_more lane start _ _ w c.index-w-t-7.result j (t + 6) _ (t + 7) (omega arith) e6 (c.step-s7.ensures j l) c.constant-7.ensures c.index-w-t-7.is (omega arith) in
+    lane_more lane start _ _ w c.index-w-t-8.result j (t + 7) _ (t + 8) (omega arith) e7 (c.step.ensures j l) c.constant-8.ensures c.index-w-t-8.is (omega arith)

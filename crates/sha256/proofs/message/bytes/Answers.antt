@@ -1,17 +1,18 @@
--- One more word, and all eight.
-use Rattle.std.proofs.Common.{◌≡◌, ℕ, ◌+◌, ◌*◌, List, length, refl, arith, rules}
-use Rattle.sha256.proofs.Bytes.{words_more, words-all}
+-- The bytes of one more word, and of all eight.
+use Rattle.std.proofs.Common.{◌+◌, ◌-◌, ◌*◌, get_or, ◌∙◌, arith, rules}
+use borrow.Rule.Slice.PartMut.{same_len_mid}
+use Rattle.sha256.proofs.Bytes.{bytes-four, words_more, words-all}
 use Rattle.sha256.proofs.message.bytes.Goals as goal
 
 pub loop-i-preserved : goal.loop-i-preserved
 loop-i-preserved c =
-    let i = c.loop-i.i in (
-      words_more c.put.new.out c.loop-i.out _ i (4 * (i + 1)) _ (omega arith) (omega arith) refl c.loop-i.invariant.0 c.put.ensures,
-      search rules,
+    let words = c.args.words in
+    let i = c.loop-i.i in
+    let four = c.copy_from_slice.ensures.after ∙ (c.to_be_bytes.ensures ∙ bytes-four (get_or words i 0)) in (
+      words_more c.loop-i.out words c.copy_from_slice.new.self _ i (omega arith) (omega arith) four c.loop-i.invariant.0,
+      same_len_mid (4 * i) (4 * i + 4 - 4 * i) c.loop-i.out c.copy_from_slice.new.self c.copy_from_slice.ensures.len ∙ c.loop-i.invariant.1,
     )
 
 pub returns : goal.returns
 returns c =
-    let words : List ℕ = c.args.words in
-    let l : length words ≡ 8 = search rules in
-    words-all words c.loop-i.out c.loop-i.i (omega arith) l c.loop-i.invariant.1 c.loop-i.invariant.0
+    words-all c.args.words c.loop-i.out c.loop-i.i (omega arith) (search rules) c.loop-i.invariant.1 c.loop-i.invariant.0

@@ -1,24 +1,19 @@
--- One more byte, and all eight.
-use Rattle.std.proofs.Common.{◌≡◌, ◌+◌, ◌*◌, ◌%◌, ◌^◌, length, get_or, take, ap, ◌∙◌, mul_comm, arith}
-use Rattle.std.proofs.lemmas.List.{length-set}
-use Rattle.sha256.proofs.Bytes.{tail_more, tail_all, bytes-mod}
+-- The number of bits in place of the last eight bytes.
+use Rattle.std.proofs.Common.{◌≡◌, ℕ, ◌*◌, ◌%◌, ◌^◌, List, length, mul_comm, arith, rules}
+use Rattle.std.proofs.lemmas.List.{append-nil, drop_all}
+use Rattle.sha256.specs.Sha256.{bytes}
+use Rattle.sha256.proofs.Bytes.{bytes_eight, bytes-mod, length-bytes}
 use Rattle.sha256.proofs.message.sized.Goals as goal
-
-pub loop-i-preserved : goal.loop-i-preserved
-loop-i-preserved c =
-    let i = c.loop-i.i in
-    let b = c.loop-i.block in
-    let z = c.to_be_bytes-size.result in
-    let l : length z ≡ 8 = ap length c.to_be_bytes-size.ensures in (
-      tail_more b (take 56 c.args.start) z 56 i (omega arith) (omega arith) c.loop-i.invariant.0,
-      length-set b (56 + i) (get_or z i 0) ∙ c.loop-i.invariant.1,
-    )
 
 pub returns : goal.returns
 returns c =
     let n = c.args.total in
-    let a = tail_all c.loop-i.block (take 56 c.args.start) c.to_be_bytes-size.result c.loop-i.i (n * 8 % 2 ^ 64)
-    (omega arith) c.loop-i.invariant.1 c.to_be_bytes-size.ensures c.loop-i.invariant.0 in
+    let start : List ℕ = c.args.start in
+    let ls : length start ≡ 64 = search rules in
+    let d = drop_all 64 start (omega arith) in
+    let e = bytes_eight (n * 8 % 2 ^ 64) in
     let b = bytes-mod 8 64 (n * 8) (omega arith) in
-    let e = mul_comm n 8 in
-    cc
+    let m = mul_comm n 8 in
+    let w : c.to_be_bytes.result ≡ bytes 8 (8 * n) = cc in
+    let l : length (bytes 8 (8 * n)) ≡ 8 = length-bytes 8 (8 * n) in
+    rw (c.filled.ensures.whole, w, l, d, append-nil)

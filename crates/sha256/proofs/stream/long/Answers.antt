@@ -1,7 +1,5 @@
 -- The block is filled, and the bytes after the last whole block are held.
-use Rattle.std.proofs.Common.{◌≡◌, ℕ, ◌-◌, List, length, take, drop, sym, ap, ◌∙◌, zero-add, rules}
-use native.Mathlib.Nat.{sub-zero}
-use Rattle.std.proofs.lemmas.List.{take_rest}
+use Rattle.std.proofs.Common.{◌≡◌, ℕ, List, length, take, sym, ap, ◌∙◌, zero-add, rules}
 use Rattle.sha256.proofs.Streams.{total-more, long-held, long-state, long_kept}
 use Rattle.sha256.proofs.stream.long.Goals as goal
 
@@ -9,25 +7,24 @@ pub returns : goal.returns
 returns c = λ m h.
     let part : List ℕ = c.args.part.now in
     let held : ℕ = c.args.h.held in
-    let room = 64 - held in
-    let front : List ℕ = take (room - 0) part in
-    let rest : List ℕ = take (length part - room) (drop room part) in
-    let tail : List ℕ = c.after_blocks-tail.result.now in
-    let full : List ℕ = c.filled-full.result in
-    let ef : front ≡ take room part = ap (λ (n : ℕ). take n part) (sub-zero room) in
-    let er = take_rest part room in
-    let et = c.after_blocks-tail.ensures.value in
+    let front : List ℕ = c.split_at.result.0.now in
+    let rest : List ℕ = c.split_at.result.1.now in
+    let tail : List ℕ = c.blocks-2.result.1.now in
+    let full : List ℕ = c.filled.result in
+    let ef = c.split_at.ensures.front in
+    let er = c.split_at.ensures.back in
+    let et = c.blocks-2.ensures.rest in
     let lf : length full ≡ 64 = search rules in
-    let ek = ap (λ (n : ℕ). take n c.filled.result) (sym (zero-add (length tail))) ∙ c.filled.ensures in
+    let ek = ap (λ (n : ℕ). take n c.filled-2.result) (sym (zero-add (length tail))) ∙ c.filled-2.ensures.front in
     record {
       held = long-held m part front rest tail held h.held c.requires ef er et;
       left =
           record {
             whole =
                 long-state m part front rest tail held h.held c.requires ef er et c.args.h.state c.compress-first.result
-                c.blocks-state.result c.args.h.block full h.left.whole h.left.rest c.filled-full.ensures lf
-                c.compress-first.ensures c.blocks-state.ensures;
-            rest = long_kept m part front rest tail held h.held c.requires ef er et c.filled.result ek;
+                c.blocks-2.result.0 c.args.h.block full h.left.whole h.left.rest c.filled.ensures.front lf
+                c.compress-first.ensures c.blocks-2.ensures.state;
+            rest = long_kept m part front rest tail held h.held c.requires ef er et c.filled-2.result ek;
             total = total-more m part _ h.left.total;
           };
     }

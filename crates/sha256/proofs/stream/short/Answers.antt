@@ -12,7 +12,7 @@ returns c = λ m h.
       left =
           record {
             whole = h.left.whole ∙ short-state m part held h.held c.requires;
-            rest = short-kept m part held h.held c.requires c.args.h.block _ h.left.rest c.filled.ensures;
+            rest = short-kept m part held h.held c.requires c.args.h.block _ h.left.rest c.filled.ensures.front;
             total = total-more m part _ h.left.total;
           };
     }

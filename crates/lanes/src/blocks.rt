@@ -1,0 +1,74 @@
+// The blocks of eight texts, each of which is one block with its padding.
+ghost use Rattle.std.specs.Prelude.{◌≡◌, ℕ, ◌<◌, [], length, take, slice_index_or};
+ghost use Rattle.sha256.specs.Lane.{column};
+ghost use Rattle.sha256.specs.Sha256.{padded, word as word_of, schedule};
+ghost use Rattle.lanes.specs.Lane.{lane, Sized, WordsAt};
+
+use std::simd::prelude::*;
+
+// Word t of a text, one of its nine whole words.
+fn word(text: &[u8; 39], t: usize) -> u32
+    requires { t < 9 }
+    ensures { result ≡ word_of (padded text.now) t }
+{
+    u32::from_be_bytes([
+        text[4 * t],
+        text[4 * t + 1],
+        text[4 * t + 2],
+        text[4 * t + 3],
+    ])
+}
+
+// Word 9 of a text: its last three bytes and the byte 0x80 of the padding.
+fn last_word(text: &[u8; 39]) -> u32
+    ensures value { result ≡ word_of (padded text.now) 9 }
+    ensures size { length text.now ≡ 39 }
+{
+    u32::from_be_bytes([text[36], text[37], text[38], 0x80])
+}
+
+fn whole_words(texts: &[[u8; 39]; 8], t: usize) -> u32x8
+    requires { t < 9 }
+    ensures { WordsAt texts.now t result }
+{
+    let mut x = [0; 8];
+    for (j, text) in texts.iter().enumerate() {
+        x[j] = word(text, t);
+    }
+    u32x8::from_array(x)
+}
+
+fn last_words(texts: &[[u8; 39]; 8]) -> u32x8
+    ensures words { WordsAt texts.now 9 result }
+    ensures sized { Sized texts.now }
+{
+    let mut x = [0; 8];
+    for (j, text) in texts.iter().enumerate() {
+        x[j] = last_word(text);
+    }
+    u32x8::from_array(x)
+}
+
+// Word t of each text's block. After word 9 come zeros, and the number of bits.
+fn words(texts: &[[u8; 39]; 8], last: u32x8, t: usize) -> u32x8
+    requires { t < 16 }
+    ensures { Sized texts.now → WordsAt texts.now 9 last → WordsAt texts.now t result }
+{
+    match t {
+        0..=8 => whole_words(texts, t),
+        9 => last,
+        15 => u32x8::splat(312),
+        _ => u32x8::splat(0),
+    }
+}
+
+// Puts the sixteen words of each text's block before those that are computed of them.
+pub(crate) fn load(texts: &[[u8; 39]; 8], w: &mut [u32x8; 64])
+    ensures sized { Sized texts.now }
+    ensures words { (j : ℕ) → j < 8 → take 16 (column lane w.new j) ≡ schedule (padded (slice_index_or texts.now j [])) 0 }
+{
+    let last = last_words(texts);
+    for t in 0..16 {
+        w[t] = words(texts, last, t);
+    }
+}
