@@ -1,5 +1,5 @@
 -- What the steps of building a task with prohibitions do. Assumes nothing.
-use Rattle.std.specs.Prelude.{◌≡◌, ℕ, ◌<◌, ◌≤◌, true, false, ◌⊎◌, List, ◌∷◌, ◌++◌, map, length, take, drop, vec_items, vec_len, Option, Result, Vec}
+use Rattle.std.specs.Prelude.{◌≡◌, ◌<◌, ◌≤◌, Bool, true, false, ◌&&◌, ◌⊎◌, List, [], ◌∷◌, ◌++◌, map, length, vec_items, vec_len, Option, Result, Vec}
 use Rattle.std.specs.declared.alloc.Global.{Global}
 use Rattle.std.specs.Option as options
 use Rattle.std.specs.Result as results
@@ -8,12 +8,18 @@ use Rattle.tasks.specs.declared.fault.Fault.{Fault}
 use Rattle.tasks.specs.declared.fault.Fault.TheVariants.{Range, Memory}
 use Rattle.tasks.specs.declared.pair.Pair.{Pair as CodePair}
 use Rattle.tasks.specs.Pair.{pair_of}
+use Rattle.tasks.specs.Task.{before}
 use Rattle.prohibitions.specs.declared.prohibiting.Prohibition.{Prohibition}
-use Rattle.prohibitions.specs.Prohibiting.{put, built, is_named, named, pair_for}
+use Rattle.prohibitions.specs.Prohibiting.{built, is_named, named, pair_for}
 
--- where x is put, or that it is there already
-abbrev pub Placed : Pair → List Pair → Option ℕ → Type 0
-Placed x xs r = options.MatchOption r (put x xs ≡ xs) (λ i. (i ≤ length xs) × (put x xs ≡ take i xs ++ x ∷ drop i xs))
+-- each pair comes before the next
+unfoldable pub in_order_after : Pair → List Pair → Bool
+in_order_after last [] = true
+in_order_after last (x ∷ xs) = before last x && in_order_after x xs
+
+abbrev pub in_order : List Pair → Bool
+in_order [] = true
+in_order (x ∷ xs) = in_order_after x xs
 
 -- pairs were changed by f, and there are at most 4,096; else that would be too many, or memory was wanting
 abbrev pub Putting : (List Pair → List Pair) → List CodePair → List CodePair → Result (Unit {0}) Fault → Type 0

@@ -1,44 +1,31 @@
 // Trains that may not use some path: the task is built anew, with a train more for each path.
-ghost use Rattle.std.specs.Prelude.{◌+◌, ◌≤◌, map, IfOk, vec_len};
+ghost use Rattle.std.specs.Prelude.{◌≡◌, ◌+◌, ◌≤◌, true, map, IfOk, vec_len};
 ghost use Rattle.tasks.specs.Model.{task_of};
 ghost use Rattle.tasks.specs.Pair.{pair_of};
 ghost use Rattle.prohibitions.specs.Prohibiting.{Fixes, prohibit, put, put_all, with_each, every_two};
 ghost use Rattle.tasks.specs.Reading.{Answers};
-ghost use Rattle.prohibitions.specs.Putting.{Placed, Putting, Adding, Named, Prohibiting, BuiltPairs};
+ghost use Rattle.prohibitions.specs.Putting.{in_order, Putting, Adding, Named, Prohibiting, BuiltPairs};
 
 use std::alloc::Global;
-use tasks::{Fault, Pair, Task};
+use tasks::{Fault, MOST_PAIRS, MOST_TRAINS, Pair, Task};
 
 // A train, and a path that it may not use.
-#[derive(Clone, Copy)]
+#[derive(Clone, Copy, Debug, PartialEq, Eq)]
 pub struct Prohibition {
     pub train: u16,
     pub path: u8,
 }
 
-// The place of a pair among pairs in rising order; none where it is there already.
-fn place_for(pairs: &[Pair], pair: Pair) -> Option<usize>
-    ensures { Placed (pair_of pair) (map pair_of pairs.now) result }
-{
-    for (i, other) in pairs.iter().enumerate() {
-        if pair.before(*other) {
-            return Some(i);
-        }
-        if !other.before(pair) {
-            return None;
-        }
-    }
-    Some(pairs.len())
-}
-
+// Puts a pair at its place among pairs in rising order, unless it is there.
 fn put(pairs: &mut Vec<Pair>, pair: Pair) -> Result<(), Fault>
-    requires { vec_len pairs.old ≤ 4096 }
+    requires few { vec_len pairs.old ≤ 4096 }
+    requires order { in_order (map pair_of pairs.old.items) ≡ true }
     ensures { Putting (put (pair_of pair)) pairs.old.items pairs.new.items result }
 {
-    let Some(place) = place_for(pairs.as_slice(), pair) else {
+    let Err(place) = pairs.binary_search(&pair) else {
         return Ok(());
     };
-    if pairs.len() >= 4096 {
+    if pairs.len() >= MOST_PAIRS as usize {
         return Err(Fault::Range);
     }
     pairs.insert(place, pair)?;
@@ -46,7 +33,8 @@ fn put(pairs: &mut Vec<Pair>, pair: Pair) -> Result<(), Fault>
 }
 
 fn put_all(pairs: &mut Vec<Pair>, more: &[Pair]) -> Result<(), Fault>
-    requires { vec_len pairs.old ≤ 4096 }
+    requires few { vec_len pairs.old ≤ 4096 }
+    requires order { in_order (map pair_of pairs.old.items) ≡ true }
     ensures { Putting (put_all (map pair_of more.now)) pairs.old.items pairs.new.items result }
 {
     for pair in more {
@@ -133,7 +121,7 @@ pub fn with_prohibitions(
     ensures fixes { IfOk result (λ u. Fixes (task_of task.now) prohibitions.now (task_of u)) }
 {
     let trains = task.trains + task.paths as u16;
-    if trains > 1024 {
+    if trains > MOST_TRAINS {
         return Err(Fault::Range);
     }
     let pairs = built_pairs(heap, task, prohibitions)?;

@@ -1,8 +1,17 @@
-use Rattle.std.proofs.Common.{length, refl, ap, ◌∙◌, inl, inr, arith}
+use Rattle.std.proofs.Common.{map, length, refl, ap, ◌∙◌, inl, inr, arith}
 use Rattle.std.proofs.lemmas.Result.{err_from_is_err_and}
 use Rattle.tasks.specs.Model.{task_of}
+use Rattle.tasks.specs.Pair.{pair_of}
+use Rattle.prohibitions.specs.Putting.{in_order}
+use Rattle.prohibitions.proofs.Placing.{order_of_task}
 use Rattle.prohibitions.proofs.Building.{all-put}
 use Rattle.prohibitions.proofs.prohibiting.built_pairs.Goals as goal
+
+pub put_all-requires : goal.put_all-requires
+put_all-requires c =
+    let e = c.in_ok-pairs.ensures.items ∙ c.as_slice.ensures.value in
+    let t = c.args.task.now in
+    record { few = omega (arith, t.few_pairs, c.in_ok-pairs.ensures.len, c.as_slice.ensures.len); order = ap (λ xs. in_order (map pair_of xs)) e ∙ order_of_task t.trains _ t.rising_pairs }
 
 pub returns-in_err-put_all : goal.returns-in_err-put_all
 returns-in_err-put_all c =

@@ -1,5 +1,7 @@
-use Rattle.std.proofs.Common.{inl, inr, arith}
+use Rattle.std.proofs.Common.{ap, ◌∙◌, inl, inr, arith}
 use Rattle.std.proofs.lemmas.Result.{err_from_is_err_and}
+use Rattle.prohibitions.specs.Putting.{in_order}
+use Rattle.prohibitions.proofs.Placing.{order-put}
 use Rattle.prohibitions.proofs.Adding.{put-more, put_too_many, put-end}
 use Rattle.prohibitions.proofs.prohibiting.put_all.Goals as goal
 
@@ -13,7 +15,7 @@ pub loop-pair-preserved : goal.loop-pair-preserved
 loop-pair-preserved c =
     let e = c.in_ok-put.ensures in
     let n = c.put.new.pairs.ok.0 in
-    (put-more c.args.more.now _ _ _ c.loop-pair.invariant.0 _ c.loop-pair-test.true _ e.0, omega (arith, e.1, n))
+    (put-more c.args.more.now _ _ _ c.loop-pair.invariant.0 _ c.loop-pair-test.true _ e.0, omega (arith, e.1, n), ap in_order e.0 ∙ order-put _ _ c.loop-pair.invariant.2)
 
 pub returns : goal.returns
 returns c =

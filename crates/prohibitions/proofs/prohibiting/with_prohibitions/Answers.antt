@@ -22,7 +22,7 @@ returns-in_err-pairs c =
 pub invariant_of-result : goal.invariant_of-result
 invariant_of-result c =
     let v = c.in_ok-pairs.pairs in
-    let g = build_guarantees c.args.task.now c.args.prohibitions.now v c.if-trains-gt1024.false c.in_ok-pairs.ensures in
+    let g = build_guarantees c.args.task.now c.args.prohibitions.now v c.if-trains-gt-MOST_TRAINS.false c.in_ok-pairs.ensures in
     let l = length-map (vec_items v) pair_of in
     let n = v.ok.0 in
     record { some_train = g.some_train; few_trains = g.few_trains; some_path = g.some_path; few_paths = g.few_paths; some_pair = omega (arith, g.some_pair, l, n); few_pairs = omega (arith, g.few_pairs, l, n); rising_pairs = g.rises }
@@ -33,6 +33,6 @@ returns c =
     let bs = c.args.prohibitions.now in
     let v = c.in_ok-pairs.pairs in
     record {
-      answer = inl (build_answer t bs v c.if-trains-gt1024.false c.in_ok-pairs.ensures);
-      fixes = build_fixes t bs v c.if-trains-gt1024.false c.in_ok-pairs.ensures;
+      answer = inl (build_answer t bs v c.if-trains-gt-MOST_TRAINS.false c.in_ok-pairs.ensures);
+      fixes = build_fixes t bs v c.if-trains-gt-MOST_TRAINS.false c.in_ok-pairs.ensures;
     }
