@@ -2,6 +2,7 @@
 use std::alloc::AllocError;
 use std::io;
 
+// The conversions are written out: nothing prints this error, so a derive of `thiserror` would ask for messages that nobody reads.
 #[derive(Drop)]
 pub enum LineError {
     Stream(io::Error),

@@ -7,18 +7,12 @@ use super::error::LineError;
 use std::alloc::AllocError;
 use std::io;
 use std::io::{BufRead, ErrorKind};
+use std::ops::ControlFlow;
 use tasks::Task;
 use words::next_stop;
 
 // A turn takes a byte at least, or is interrupted, or is the last. No word has more than 32775 bytes.
 const TURNS: u32 = 1000000;
-
-// Whether there may be more to take.
-#[derive(Clone, Copy)]
-enum Turn {
-    More,
-    Last,
-}
 
 // Adds what fits before the stop, and answers how much.
 fn add_part(held: &[u8], stop: usize, word: &mut Vec<u8>) -> Result<usize, AllocError>
@@ -30,8 +24,12 @@ fn add_part(held: &[u8], stop: usize, word: &mut Vec<u8>) -> Result<usize, Alloc
     Ok(n)
 }
 
-// Takes what the reader holds, but none beyond the stop. An interrupted call takes nothing and is no error.
-fn take_part<R: BufRead>(reader: &mut R, stop: usize, word: &mut Vec<u8>) -> Result<Turn, LineError>
+// Takes what the reader holds, but none beyond the stop, and breaks off where there is nothing more to take. An interrupted call takes nothing and is no error.
+fn take_part<R: BufRead>(
+    reader: &mut R,
+    stop: usize,
+    word: &mut Vec<u8>,
+) -> Result<ControlFlow<()>, LineError>
     requires { vec_len word.old ≤ stop }
     ensures { Grown stop word.old.items word.new.items }
 {
@@ -41,35 +39,44 @@ fn take_part<R: BufRead>(reader: &mut R, stop: usize, word: &mut Vec<u8>) -> Res
     };
     let n = add_part(held, stop, word)?;
     reader.consume(n);
-    Ok(if n == 0 { Turn::Last } else { Turn::More })
+    Ok(if n == 0 {
+        ControlFlow::Break(())
+    } else {
+        ControlFlow::Continue(())
+    })
 }
 
-fn interrupted(error: io::Error) -> Result<Turn, LineError> {
+fn interrupted(error: io::Error) -> Result<ControlFlow<()>, LineError> {
     if error.kind() == ErrorKind::Interrupted {
-        Ok(Turn::More)
+        Ok(ControlFlow::Continue(()))
     } else {
         Err(LineError::Stream(error))
     }
 }
 
 // Takes a part of what is wanted.
-fn one_turn<R: BufRead>(reader: &mut R, task: &Task, word: &mut Vec<u8>) -> Result<Turn, LineError>
+fn one_turn<R: BufRead>(
+    reader: &mut R,
+    task: &Task,
+    word: &mut Vec<u8>,
+) -> Result<ControlFlow<()>, LineError>
     requires { Wanted (task_of task.now) word.old.items }
     ensures { Wanted (task_of task.now) word.new.items }
 {
     let stop = next_stop(task, word.as_slice());
     if stop <= word.len() {
-        return Ok(Turn::Last);
+        return Ok(ControlFlow::Break(()));
     }
     take_part(reader, stop, word)
 }
 
+// Stands apart from `read_word_from` so that the bound and the law are shown once, and not at each of these returns.
 fn all_turns<R: BufRead>(reader: &mut R, task: &Task, word: &mut Vec<u8>) -> Result<(), LineError>
     ensures { Wanted (task_of task.now) word.new.items }
 {
     word.clear();
     for _turn in 0..TURNS {
-        if let Turn::Last = one_turn(reader, task, word)? {
+        if one_turn(reader, task, word)?.is_break() {
             return Ok(());
         }
     }
