@@ -1,7 +1,7 @@
 -- The boxes of several trains: made of those of fewer, and from the digests of their texts. Assumes nothing.
-use Rattle.std.proofs.Common.{◌≡◌, ℕ, zero, suc, ◌+◌, ◌-◌, ◌*◌, ◌<◌, ◌≤◌, List, [], ◌∷◌, ◌++◌, length, get_or, take, drop, sym, refl, ap, ◌∙◌, add-zero, arith}
+use Rattle.std.proofs.Common.{◌≡◌, ℕ, zero, suc, ◌+◌, ◌*◌, ◌<◌, ◌≤◌, List, [], ◌∷◌, ◌++◌, length, get_or, take, drop, sym, refl, ap, ◌∙◌, add-zero, arith}
 use Rattle.std.specs.List.{flat_map}
-use Rattle.std.proofs.lemmas.List.{append_assoc, drop_at, drop-drop, drop-take, length-append, length-take-le, take_at, take_rest, take-take}
+use Rattle.std.proofs.lemmas.List.{append_assoc, drop_at, drop-drop, drop-take, length-append, length-take-le, take_at, take-take}
 use Rattle.boxes.specs.Box.{box_of, boxes_of, Laid}
 
 module _ (H : List ℕ → List ℕ) (round : ℕ) where
@@ -38,17 +38,14 @@ module _ (H : List ℕ → List ℕ) (round : ℕ) where
       let i = boxes_split numbers n (first + 1) (drop 32 chances) (omega arith) in
       rw (i, e, f, d) (sym (append_assoc (box_of H round first x (take 32 chances)) _ _))
 
-  -- the boxes of n trains more, as the code cuts their numbers and chances
+  -- the boxes of n trains more
   pub boxes-more : (numbers chances : List ℕ) (t n : ℕ) → t + n ≤ length numbers →
-      boxes_of H round 0 (take t numbers) chances ++ boxes_of H round t (take (t + n - t) (drop t numbers)) (take (length chances - 32 * t) (drop (32 * t) chances))
-      ≡ boxes_of H round 0 (take (t + n) numbers) chances
+      boxes_of H round 0 (take t numbers) chances ++ boxes_of H round t (take n (drop t numbers)) (drop (32 * t) chances) ≡ boxes_of H round 0 (take (t + n) numbers) chances
   boxes-more numbers chances t n h =
       let s = boxes_split (take (t + n) numbers) t 0 chances (simp length-take-le (omega arith)) in
-      let a : t + n - t ≡ n = omega arith in
       let b : 0 + t ≡ t = omega arith in
       let e = take-take t (t + n) numbers (omega arith) in
       let f = drop-take t n numbers in
-      let g = take_rest chances (32 * t) in
       cc
 
   pub length-boxes : ((x : List ℕ) → length (H x) ≡ 32) → (numbers chances : List ℕ) (first : ℕ) → length (boxes_of H round first numbers chances) ≡ 32 * length numbers

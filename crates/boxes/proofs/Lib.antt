@@ -3,6 +3,7 @@ pub mod Binds
 pub mod Boxes
 pub mod Bytes
 pub mod Digests
+pub mod Groups
 pub mod Parts
 pub mod Same
 pub mod Texts

@@ -1,5 +1,6 @@
 -- A list of two parts, and parts put one after the other. Assumes nothing.
-use Rattle.std.proofs.Common.{◌≡◌, ℕ, ◌+◌, ◌-◌, ◌*◌, ◌≤◌, List, [], ◌++◌, length, take, drop, sym, refl, ap, ◌∙◌, mul-add, arith}
+use Rattle.std.proofs.Common.{◌≡◌, ℕ, zero, suc, mul-zero, mul-suc, get_or, ◌<◌, ◌+◌, ◌-◌, ◌*◌, ◌≤◌, List, [], ◌++◌, length, take, drop, sym, refl, ap, ◌∙◌, mul-add, arith}
+use Rattle.std.specs.Simd.{first_chunks}
 use borrow.Rule.Slice.PartMut.{put_mid}
 use Rattle.std.proofs.lemmas.List.{append_assoc, append-nil, drop_all, drop_at, drop-drop, length-append, length-drop, length-take-le, take-append-drop, take_at, take_rest}
 
@@ -10,17 +11,22 @@ same_parts a b c d l e = (
   sym (drop_at a c (length a) refl) ∙ ap (drop (length a)) e ∙ drop_at b d (length a) (sym l),
 )
 
--- a put to the front, and b after it, where they fill the whole
-pub put_two : {X : Type 0} (i : ℕ) (was a b p q : List X) → i ≡ length a → length was ≡ length a + length b → p ≡ a ++ drop (length a) was →
-    q ≡ b ++ drop (length b) (take (length p - i) (drop i p)) → put_mid i (length p - i) p q ≡ a ++ b
-put_two i was a b p q ei l ep eq =
-    let t : take i p ≡ a = rw ep (take_at a _ i (sym ei)) in
-    let d : drop i p ≡ drop (length a) was = rw ep (drop_at a _ i (sym ei)) in
-    let r = take_rest p i in
-    let n : drop (length b) (drop (length a) was) ≡ [] = drop_all (length b) (drop (length a) was) (simp length-drop (omega arith)) in
-    let e : drop (length p - i) (drop i p) ≡ [] = drop_all (length p - i) (drop i p) (simp length-drop (omega arith)) in
-    let z = append-nil b in
+-- b put behind a
+pub put_next : {X : Type 0} (a rest b : List X) (i n : ℕ) → length a ≡ i → put_mid i n (a ++ rest) b ≡ a ++ (b ++ drop n rest)
+put_next a rest b i n l =
+    let t = take_at a rest i l in
+    let d = ap (drop n) (drop_at a rest i l) in
     cc
+
+-- where it fills what is left
+pub put_end : {X : Type 0} (a rest b : List X) (i n : ℕ) → length a ≡ i → length rest ≤ n → put_mid i n (a ++ rest) b ≡ a ++ b
+put_end a rest b i n l h = put_next a rest b i n l ∙ ap (λ xs. a ++ xs) (ap (λ xs. b ++ xs) (drop_all n rest h) ∙ append-nil b)
+
+-- chunk j of those that a list is cut into
+pub first_chunks_at : {X : Type 0} (n k : ℕ) (xs : List X) (j : ℕ) → j < k → get_or (first_chunks n k xs) j [] ≡ take n (drop (n * j) xs)
+first_chunks_at n zero xs j h = absurd (omega arith)
+first_chunks_at n (suc k) xs zero h = rw (mul-zero n) refl
+first_chunks_at n (suc k) xs (suc j) h = first_chunks_at n k (drop n xs) j (omega arith) ∙ let e : n + n * j ≡ n * suc j = omega (arith, mul-suc n j) in ap (take n) (drop-drop (n * j) n xs ∙ ap (λ i. drop i xs) e)
 
 -- parts of w elements put one after the other: what stands so far, and what is left as it was
 pub record Put {X : Type 0} (w i : ℕ) (done out was : List X) : Type 0 where

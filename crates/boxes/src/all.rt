@@ -1,52 +1,9 @@
 // The boxes of all trains, eight at a time.
-ghost use Rattle.std.specs.Prelude.{◌≡◌, ℕ, ◌+◌, ◌*◌, ◌^◌, ◌<◌, ◌≤◌, [], ◌++◌, length, take, drop, if◌then◌else◌, slice_index, slice_index_or};
-ghost use Rattle.std.specs.List.{flat_map};
+ghost use Rattle.std.specs.Prelude.{◌≡◌, ◌*◌, ◌^◌, ◌≤◌, ◌++◌, length, drop, if◌then◌else◌};
 ghost use Rattle.sha256.specs.Sha256.{sha256};
-ghost use Rattle.boxes.specs.Box.{box_text, boxes_of, closable, Laid};
+ghost use Rattle.boxes.specs.Box.{boxes_of, closable, Laid};
 
-use super::closing::{put, text};
-use lanes::digests;
-
-// The texts of up to eight trains from `first` on.
-fn texts(round: u32, first: usize, numbers: &[u8], chances: &[u8]) -> [[u8; 39]; 8]
-    requires few { length numbers.now ≤ 8 }
-    requires trains { first + length numbers.now ≤ 2 ^ 16 }
-    requires chances { 32 * length numbers.now ≤ length chances.now }
-    ensures { (j : ℕ) → j < length numbers.now → slice_index_or result j [] ≡ box_text round (first + j) (slice_index numbers.now j) (take 32 (drop (32 * j) chances.now)) }
-{
-    let mut all = [[0; 39]; 8];
-    for j in 0..numbers.len() {
-        all[j] = text(
-            round,
-            (first + j) as u16,
-            numbers[j],
-            &chances[32 * j..32 * j + 32],
-        );
-    }
-    all
-}
-
-// Writes the digests to the front.
-fn put_all(out: &mut [u8], digests: &[[u8; 32]])
-    requires { 32 * length digests.now ≤ length out.old }
-    ensures { out.new ≡ flat_map (λ d. d) digests.now ++ drop (32 * length digests.now) out.old }
-{
-    for i in 0..digests.len() {
-        put(&mut out[32 * i..], &digests[i]);
-    }
-}
-
-// Writes the boxes of up to eight trains from `first` on to the front.
-fn close_eight(round: u32, first: usize, numbers: &[u8], chances: &[u8], out: &mut [u8])
-    requires few { length numbers.now ≤ 8 }
-    requires trains { first + length numbers.now ≤ 2 ^ 16 }
-    requires chances { 32 * length numbers.now ≤ length chances.now }
-    requires room { 32 * length numbers.now ≤ length out.old }
-    ensures { out.new ≡ boxes_of sha256 round first numbers.now chances.now ++ drop (32 * length numbers.now) out.old }
-{
-    let all = digests(&texts(round, first, numbers, chances));
-    put_all(out, &all[0..numbers.len()]);
-}
+use super::group::Group;
 
 fn write_all(round: u32, numbers: &[u8], chances: &[u8], out: &mut [u8])
     requires trains { length numbers.now ≤ 2 ^ 16 }
@@ -54,17 +11,15 @@ fn write_all(round: u32, numbers: &[u8], chances: &[u8], out: &mut [u8])
     requires room { 32 * length numbers.now ≤ length out.old }
     ensures { out.new ≡ boxes_of sha256 round 0 numbers.now chances.now ++ drop (32 * length numbers.now) out.old }
 {
-    let mut t = 0;
-    while t < numbers.len() {
-        let n = (numbers.len() - t).min(8);
-        close_eight(
+    for (i, numbers) in numbers.chunks(8).enumerate() {
+        let first = 8 * i;
+        let group = Group {
             round,
-            t,
-            &numbers[t..t + n],
-            &chances[32 * t..],
-            &mut out[32 * t..],
-        );
-        t += n;
+            first,
+            numbers,
+            chances: &chances[32 * first..],
+        };
+        group.write_boxes(&mut out[32 * first..]);
     }
 }
 

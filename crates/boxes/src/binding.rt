@@ -6,9 +6,9 @@ ghost use Rattle.boxes.specs.Binding.{collides, opened_twice, collision_of, Bind
 ghost use Rattle.boxes.specs.Model.{opening_of, two_of};
 
 use super::closing::text;
-use super::opening::{Opening, opens, same};
+use super::opening::{Opening, opens};
 
-#[derive(Clone, Copy)]
+#[derive(Clone, Copy, Debug, PartialEq, Eq)]
 pub struct TwoTexts {
     pub first: [u8; 39],
     pub second: [u8; 39],
@@ -17,7 +17,7 @@ pub struct TwoTexts {
 fn opened_twice(digest: [u8; 32], round: u32, first: Opening, second: Opening) -> bool
     ensures { result ≡ opened_twice sha256 digest round (opening_of first) (opening_of second) }
 {
-    !same(first, second) && opens(digest, round, first) && opens(digest, round, second)
+    first != second && opens(digest, round, first) && opens(digest, round, second)
 }
 
 // The texts of two openings of one box: different, and of one digest. None where the openings are the same, or one of them doesn't open the box.

@@ -4,6 +4,7 @@
 mod all;
 mod binding;
 mod closing;
+mod group;
 mod opening;
 
 pub use all::close_all;

@@ -12,3 +12,4 @@ pub mod Main
 pub mod Misses
 pub mod Once
 pub mod Partnered
+pub mod Same

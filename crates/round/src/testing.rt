@@ -9,6 +9,7 @@ ghost use Rattle.boxes.specs.Model.{opening_of};
 ghost use Rattle.words.specs.Model.{said};
 ghost use Rattle.round.specs.Round.{opens_in, content_with, test_opened};
 
+use super::opening::part_of;
 use boxes::{Opening, opens};
 use fitting::pair_at;
 use tasks::{Fault, Pair, Task};
@@ -18,13 +19,10 @@ use words::Word;
 fn opens_in(round: u32, digests: &[u8], opening: Opening) -> bool
     ensures { result ≡ opens_in sha256 round digests.now (opening_of opening) }
 {
-    let at = 32 * opening.train as usize;
-    if digests.len() < at + 32 {
-        return false;
+    match part_of(digests, opening.train) {
+        Some(digest) => opens(digest, round, opening),
+        None => false,
     }
-    let mut digest = [0; 32];
-    digest.copy_from_slice(&digests[at..at + 32]);
-    opens(digest, round, opening)
 }
 
 fn content_with(paths: u8, first: u8, second: u8) -> bool
@@ -36,13 +34,10 @@ fn content_with(paths: u8, first: u8, second: u8) -> bool
 fn asked_pair(task: &Task, pair: u16) -> Pair
     ensures { pair_of result ≡ pair_at (task_of task.now) pair }
 {
-    match pair_at(task, pair) {
-        Ok(pair) => pair,
-        Err(_) => Pair {
-            first: 0,
-            second: 0,
-        },
-    }
+    pair_at(task, pair).unwrap_or(Pair {
+        first: 0,
+        second: 0,
+    })
 }
 
 // Whether the word opens the two boxes of the pair asked for in this round, of a task whose Boxes had these digests, so that the asker is content; or the lowest

@@ -1,4 +1,5 @@
 pub mod Fault
+pub mod Kind
 pub mod Pair
 pub mod Task
 pub mod Model

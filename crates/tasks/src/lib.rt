@@ -3,6 +3,7 @@
 
 mod fault;
 mod fitting;
+mod kind;
 mod pair;
 mod plan;
 mod reading;
@@ -12,6 +13,7 @@ mod writing;
 
 pub use fault::{Fault, Unfit};
 pub use fitting::{first_unfit, path_of};
+pub use kind::Kind;
 pub use pair::Pair;
 pub use plan::Plan;
 pub use reading::{Head, check_plan, check_task, read_head, read_plan, read_task};

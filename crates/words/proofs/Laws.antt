@@ -10,6 +10,9 @@ use Rattle.tasks.proofs.Units.{then_got, cond-got}
 use Rattle.tasks.proofs.Words.{word_back}
 use Rattle.tasks.proofs.PlanLaws.{plan_law}
 use Rattle.boxes.specs.Box.{Opening}
+use Rattle.tasks.specs.Kind.{kind_byte}
+use Rattle.tasks.specs.declared.kind.Kind.{Kind}
+use Rattle.tasks.specs.declared.kind.Kind.TheVariants as kind
 use Rattle.words.specs.Said.{Said, task, plan, boxes, ask, opened, end}
 use Rattle.words.specs.Reading.{exactly, long_at, opening_at, read_task_word, read_opened, read_word}
 use Rattle.words.specs.Writing.{WordLaw, said_bytes, long_bytes, opening_bytes, is_said, is_got, is_round, is_opening}
@@ -25,6 +28,18 @@ pub record Unknown (k : ℕ) : Type 0 where
   pub not4 : eqb k 4 ≡ false
   pub not5 : eqb k 5 ≡ false
   pub not6 : eqb k 6 ≡ false
+
+-- a byte that is no kind's
+pub unknown : (k : ℕ) → ((kind : Kind) → kind_byte kind ≡ k → ⊥) → Unknown k
+unknown k h =
+    record {
+      not1 = ne_eqb k 1 (λ e. h kind.Task (sym e));
+      not2 = ne_eqb k 2 (λ e. h kind.Plan (sym e));
+      not3 = ne_eqb k 3 (λ e. h kind.Boxes (sym e));
+      not4 = ne_eqb k 4 (λ e. h kind.Ask (sym e));
+      not5 = ne_eqb k 5 (λ e. h kind.Opened (sym e));
+      not6 = ne_eqb k 6 (λ e. h kind.End (sym e));
+    }
 
 pub by_kind : (P : ℕ → Type 0) → P 1 → P 2 → P 3 → P 4 → P 5 → P 6 → ((k : ℕ) → Unknown k → P k) → (k : ℕ) → P k
 by_kind P a b c d e f other k =

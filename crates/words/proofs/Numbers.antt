@@ -1,7 +1,7 @@
 -- Numbers of two and of four bytes, and openings, at a place among bytes: what is read is what is written.
-use Rattle.std.proofs.Common.{◌≡◌, ℕ, zero, suc, ◌+◌, ◌*◌, ◌/◌, ◌%◌, ◌<◌, ◌≤◌, true, eqb, ltb, List, [], ◌∷◌, ◌++◌, length, take, drop, sym, refl, ap, ◌∙◌, add-zero, add_assoc, arith}
+use Rattle.std.proofs.Common.{◌≡◌, ℕ, zero, suc, ◌+◌, ◌*◌, ◌/◌, ◌%◌, ◌<◌, ◌≤◌, true, eqb, ltb, List, [], ◌∷◌, ◌++◌, length, take, drop, sym, refl, ap, ◌∙◌, add-zero, add_assoc, arith, lit<, lit≤}
 use Rattle.std.proofs.lemmas.Bool.{and_parts, ltb-true, eqb-true}
-use Rattle.std.proofs.lemmas.List.{drop_more, drop-drop, take-append-drop, take_at, get_or-drop}
+use Rattle.std.proofs.lemmas.List.{drop_more, drop-drop, take-append-drop, take_at, get_or-drop, get_or-take, drop-take, take-take}
 use Rattle.paths.specs.Plan.{at, all_below}
 use Rattle.tasks.specs.Reading.{word_at}
 use Rattle.tasks.specs.Writing.{word_bytes}
@@ -70,3 +70,9 @@ opening_front o bs h =
 
 pub opening_behind : (n : ℕ) (bs : List ℕ) → opening_at bs n ≡ opening_at (drop n bs) 0
 opening_behind n bs = rw (get_or-drop n bs 0 0, get_or-drop n bs 1 0, get_or-drop n bs 2 0, drop-drop 3 n bs, add-zero n) refl
+
+-- an opening that is cut out from its place on
+pub opening_cut : (n : ℕ) (bs : List ℕ) → opening_at (take 35 (drop n bs)) 0 ≡ opening_at bs n
+opening_cut n bs =
+    let ys = drop n bs in
+    rw (opening_behind n bs, get_or-take 35 ys 0 0 (lit< tt), get_or-take 35 ys 1 0 (lit< tt), get_or-take 35 ys 2 0 (lit< tt), drop-take 3 32 ys, take-take 32 32 (drop 3 ys) (lit≤ tt)) refl

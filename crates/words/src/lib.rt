@@ -6,7 +6,7 @@ mod stops;
 mod word;
 mod writing;
 
-pub use reading::read_word;
+pub use reading::{behind_head, read_word};
 pub use stops::next_stop;
 pub use word::Word;
-pub use writing::write_word;
+pub use writing::{ask_bytes, end_bytes, opened_bytes, write_word};

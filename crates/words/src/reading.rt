@@ -1,15 +1,15 @@
 // Words read from bytes, each by the form of its kind.
-ghost use Rattle.std.specs.Prelude.{◌≡◌, ◌+◌, ◌≤◌, length, drop};
+ghost use Rattle.std.specs.Prelude.{◌≡◌, drop};
 ghost use Rattle.boxes.specs.Model.{opening_of};
 ghost use Rattle.tasks.specs.Model.{task_of};
 ghost use Rattle.tasks.specs.Reading.{gives};
 ghost use Rattle.words.specs.Model.{said};
-ghost use Rattle.words.specs.Reading.{long_at, opening_at, read_task_word, read_plan_word, read_boxes, read_ask, read_opened, read_end, read_word};
+ghost use Rattle.words.specs.Reading.{opening_at, read_task_word, read_plan_word, read_boxes, read_ask, read_opened, read_end, read_word};
 ghost use Rattle.words.specs.Writing.{WordLaw};
 
 use super::word::Word;
 use boxes::Opening;
-use tasks::{Fault, Task, check_plan, check_task};
+use tasks::{Fault, Kind, Task, check_plan, check_task};
 
 fn read_task_word(bytes: &[u8]) -> Result<Word, Fault>
     ensures { gives said result ≡ read_task_word bytes.now }
@@ -25,30 +25,23 @@ fn read_plan_word<'a>(task: &Task, bytes: &'a [u8]) -> Result<Word<'a>, Fault>
     Ok(Word::Plan(&bytes[3..]))
 }
 
+// What stands behind the head of the Boxes.
+pub fn behind_head(boxes: &[u8]) -> &[u8]
+    ensures { result.now ≡ drop 7 boxes.now }
+{
+    boxes.get(7..).unwrap_or(&[])
+}
+
 fn read_boxes(trains: u16, bytes: &[u8]) -> Result<Word, Fault>
     ensures { gives said result ≡ read_boxes trains bytes.now }
 {
-    if bytes.len() != 7 + 32 * trains as usize
-        || u16::from_be_bytes([bytes[5], bytes[6]]) != trains
-    {
+    let [_, a, b, c, d, high, low, ..] = bytes else {
+        return Err(Fault::Shape);
+    };
+    if bytes.len() != 7 + 32 * trains as usize || u16::from_be_bytes([*high, *low]) != trains {
         return Err(Fault::Shape);
     }
-    Ok(Word::Boxes(round_in(bytes), behind_head(bytes)))
-}
-
-fn behind_head(bytes: &[u8]) -> &[u8]
-    requires { 7 ≤ length bytes.now }
-    ensures { result.now ≡ drop 7 bytes.now }
-{
-    &bytes[7..]
-}
-
-// The number of the round, which stands behind the kind.
-fn round_in(bytes: &[u8]) -> u32
-    requires { 5 ≤ length bytes.now }
-    ensures { result ≡ long_at bytes.now 1 }
-{
-    u32::from_be_bytes([bytes[1], bytes[2], bytes[3], bytes[4]])
+    Ok(Word::Boxes(u32::from_be_bytes([*a, *b, *c, *d]), behind_head(bytes)))
 }
 
 fn read_ask(bytes: &[u8]) -> Result<Word, Fault>
@@ -63,15 +56,15 @@ fn read_ask(bytes: &[u8]) -> Result<Word, Fault>
     ))
 }
 
-fn opening_at(bytes: &[u8], at: usize) -> Opening
-    requires { at + 35 ≤ length bytes.now }
-    ensures { opening_of result ≡ opening_at bytes.now at }
+fn opening_in(bytes: &[u8; 35]) -> Opening
+    ensures { opening_of result ≡ opening_at bytes.now 0 }
 {
+    let [high, low, number, ..] = bytes;
     let mut chance = [0; 32];
-    chance.copy_from_slice(&bytes[at + 3..at + 35]);
+    chance.copy_from_slice(&bytes[3..]);
     Opening {
-        train: u16::from_be_bytes([bytes[at], bytes[at + 1]]),
-        number: bytes[at + 2],
+        train: u16::from_be_bytes([*high, *low]),
+        number: *number,
         chance,
     }
 }
@@ -79,10 +72,17 @@ fn opening_at(bytes: &[u8], at: usize) -> Opening
 fn read_opened(bytes: &[u8]) -> Result<Word, Fault>
     ensures { gives said result ≡ read_opened bytes.now }
 {
-    if bytes.len() != 75 {
+    let [_, a, b, c, d, openings @ ..] = bytes else {
         return Err(Fault::Shape);
-    }
-    Ok(Word::Opened(round_in(bytes), opening_at(bytes, 5), opening_at(bytes, 40)))
+    };
+    let ([first, second], []) = openings.as_chunks() else {
+        return Err(Fault::Shape);
+    };
+    Ok(Word::Opened(
+        u32::from_be_bytes([*a, *b, *c, *d]),
+        opening_in(first),
+        opening_in(second),
+    ))
 }
 
 fn read_end(bytes: &[u8]) -> Result<Word, Fault>
@@ -97,20 +97,20 @@ fn read_end(bytes: &[u8]) -> Result<Word, Fault>
     Ok(Word::End(u32::from_be_bytes([*a, *b, *c, *d]), *content == 1))
 }
 
+// Stands apart from `read_word` so that the law is shown once, and not at each of these returns.
 fn read_by_kind<'a>(task: &Task, bytes: &'a [u8]) -> Result<Word<'a>, Fault>
     ensures { gives said result ≡ read_word (task_of task.now) bytes.now }
 {
     let [kind, ..] = bytes else {
         return Err(Fault::Shape);
     };
-    match *kind {
-        1 => read_task_word(bytes),
-        2 => read_plan_word(task, bytes),
-        3 => read_boxes(task.trains, bytes),
-        4 => read_ask(bytes),
-        5 => read_opened(bytes),
-        6 => read_end(bytes),
-        _ => Err(Fault::Shape),
+    match Kind::try_from(*kind)? {
+        Kind::Task => read_task_word(bytes),
+        Kind::Plan => read_plan_word(task, bytes),
+        Kind::Boxes => read_boxes(task.trains, bytes),
+        Kind::Ask => read_ask(bytes),
+        Kind::Opened => read_opened(bytes),
+        Kind::End => read_end(bytes),
     }
 }
 

@@ -3,7 +3,7 @@ use boxes::Opening;
 
 // Task, Plan and Boxes are parts of the bytes that were read: all of the Task, the paths of the Plan, and the digests behind the head of the Boxes. End is true
 // where the asker is content.
-#[derive(Clone, Copy)]
+#[derive(Clone, Copy, Debug, PartialEq, Eq)]
 pub enum Word<'a> {
     Task(&'a [u8]),
     Plan(&'a [u8]),

@@ -1,6 +1,7 @@
 // Words written into memory that is lent.
 ghost use Rattle.std.specs.Prelude.{◌≡◌, ◌+◌, ◌≤◌, ◌∷◌, ◌++◌, length, drop};
 ghost use Rattle.boxes.specs.Model.{opening_of};
+ghost use Rattle.tasks.specs.Kind.{kind_byte};
 ghost use Rattle.tasks.specs.Writing.{word_bytes};
 ghost use Rattle.words.specs.Model.{said, wrote_to};
 ghost use Rattle.words.specs.Said.{plan, boxes, ask, opened, end};
@@ -8,8 +9,9 @@ ghost use Rattle.words.specs.Writing.{long_bytes, opening_bytes, said_bytes, wri
 
 use super::word::Word;
 use boxes::Opening;
+use tasks::Kind;
 
-// Bytes put to the front.
+// Bytes put to the front: a function, since what is written through a free end that is not lent to one is not known.
 fn put(bytes: &[u8], out: &mut [u8])
     requires { length bytes.now ≤ length out.old }
     ensures { out.new ≡ bytes.now ++ drop (length bytes.now) out.old }
@@ -48,55 +50,61 @@ fn write_plan(paths: &[u8], out: &mut [u8]) -> Option<usize>
     ensures { wrote_to result out.new ≡ write (said_bytes (plan paths.now)) out.old }
 {
     let [high, low] = low_word(paths.len());
-    write_both(&[2, high, low], paths, out)
+    write_both(&[Kind::Plan.byte(), high, low], paths, out)
 }
 
 fn write_boxes(round: u32, digests: &[u8], out: &mut [u8]) -> Option<usize>
     ensures { wrote_to result out.new ≡ write (said_bytes (boxes round digests.now)) out.old }
 {
-    let [a, b, c, d] = round.to_be_bytes();
+    let [kind, a, b, c, d] = front(Kind::Boxes, round);
     let [high, low] = low_word(digests.len() / 32);
-    write_both(&[3, a, b, c, d, high, low], digests, out)
+    write_both(&[kind, a, b, c, d, high, low], digests, out)
 }
 
 // The kind of a word and the number of its round.
-fn front(kind: u8, round: u32) -> [u8; 5]
-    ensures { result ≡ kind ∷ long_bytes round }
+fn front(kind: Kind, round: u32) -> [u8; 5]
+    ensures { result ≡ kind_byte kind ∷ long_bytes round }
 {
     let [a, b, c, d] = round.to_be_bytes();
-    [kind, a, b, c, d]
+    [kind.byte(), a, b, c, d]
 }
 
-fn write_ask(round: u32, pair: u16, out: &mut [u8]) -> Option<usize>
-    ensures { wrote_to result out.new ≡ write (said_bytes (ask round pair)) out.old }
+// The Ask of a round for a pair.
+pub fn ask_bytes(round: u32, pair: u16) -> [u8; 7]
+    ensures { result ≡ said_bytes (ask round pair) }
 {
-    write_both(&front(4, round), &pair.to_be_bytes(), out)
+    let [kind, a, b, c, d] = front(Kind::Ask, round);
+    let [high, low] = pair.to_be_bytes();
+    [kind, a, b, c, d, high, low]
 }
 
-fn put_opening(opening: &Opening, out: &mut [u8])
-    requires { 35 ≤ length out.old }
-    ensures { out.new ≡ opening_bytes (opening_of opening.now) ++ drop 35 out.old }
+fn opening_bytes(opening: Opening) -> [u8; 35]
+    ensures { result ≡ opening_bytes (opening_of opening) }
 {
     let [high, low] = opening.train.to_be_bytes();
-    put_both(&[high, low, opening.number], &opening.chance, out);
+    let mut bytes = [0; 35];
+    bytes[..3].copy_from_slice(&[high, low, opening.number]);
+    bytes[3..].copy_from_slice(&opening.chance);
+    bytes
 }
 
-fn write_opened(round: u32, first: Opening, second: Opening, out: &mut [u8]) -> Option<usize>
-    ensures { wrote_to result out.new ≡ write (said_bytes (opened round (opening_of first) (opening_of second))) out.old }
+// The Opened of a round, with the openings of two boxes.
+pub fn opened_bytes(round: u32, first: Opening, second: Opening) -> [u8; 75]
+    ensures { result ≡ said_bytes (opened round (opening_of first) (opening_of second)) }
 {
-    if out.len() < 75 {
-        return None;
-    }
-    put(&front(5, round), out);
-    put_opening(&first, &mut out[5..]);
-    put_opening(&second, &mut out[40..]);
-    Some(75)
+    let mut bytes = [0; 75];
+    bytes[..5].copy_from_slice(&front(Kind::Opened, round));
+    bytes[5..40].copy_from_slice(&opening_bytes(first));
+    bytes[40..].copy_from_slice(&opening_bytes(second));
+    bytes
 }
 
-fn write_end(round: u32, content: bool, out: &mut [u8]) -> Option<usize>
-    ensures { wrote_to result out.new ≡ write (said_bytes (end round content)) out.old }
+// The End of a round, which says whether the asker is content.
+pub fn end_bytes(round: u32, content: bool) -> [u8; 6]
+    ensures { result ≡ said_bytes (end round content) }
 {
-    write_both(&front(6, round), &[content as u8], out)
+    let [kind, a, b, c, d] = front(Kind::End, round);
+    [kind, a, b, c, d, content as u8]
 }
 
 // The bytes of a word at the front of the memory, and how many; where there is no room nothing is written.
@@ -107,8 +115,10 @@ pub fn write_word(word: Word, out: &mut [u8]) -> Option<usize>
         Word::Task(bytes) => write_both(&[], bytes, out),
         Word::Plan(paths) => write_plan(paths, out),
         Word::Boxes(round, digests) => write_boxes(round, digests, out),
-        Word::Ask(round, pair) => write_ask(round, pair, out),
-        Word::Opened(round, first, second) => write_opened(round, first, second, out),
-        Word::End(round, content) => write_end(round, content, out),
+        Word::Ask(round, pair) => write_both(&[], &ask_bytes(round, pair), out),
+        Word::Opened(round, first, second) => {
+            write_both(&[], &opened_bytes(round, first, second), out)
+        }
+        Word::End(round, content) => write_both(&[], &end_bytes(round, content), out),
     }
 }

@@ -1,32 +1,27 @@
-use Rattle.std.proofs.Common.{◌≡◌, ◌+◌, ◌-◌, ◌*◌, ◌≤◌, length, take, drop, ◌∙◌, arith}
-use Rattle.std.proofs.lemmas.List.{length-drop, length-take-le, take_all}
-use Rattle.sha256.specs.Sha256.{sha256}
-use Rattle.boxes.specs.Box.{boxes_of}
-use Rattle.boxes.proofs.Boxes.{boxes-more, length-boxes}
-use Rattle.boxes.proofs.Digests.{length-sha256}
-use Rattle.boxes.proofs.Parts.{put-none, put-more, put_all}
+use Rattle.std.proofs.Common.{◌+◌, ◌*◌, ◌≤◌, length, ◌∙◌, arith, rules, length-drop, length-take}
+use Rattle.boxes.proofs.Groups.{closed-none, closed-more, closed_all, group-within}
 use Rattle.boxes.proofs.all.write_all.Goals as goal
 
-pub loop-t-init : goal.loop-t-init
-unfolding boxes_of
-loop-t-init c = (put-none 32 c.args.out.now, omega arith)
+pub loop-i-init : goal.loop-i-init
+loop-i-init c = (search rules, tt, search rules, closed-none c.args.round c.args.numbers.now c.args.chances.now c.args.out.now _ _ (search rules) (search rules))
 
-pub loop-t-preserved : goal.loop-t-preserved
-loop-t-preserved c =
-    let t = c.loop-t.t in
-    let n = c.min-n.result in
-    let numbers = c.args.numbers.now in
-    let chances = c.args.chances.now in
-    let h : t + n ≤ length numbers = omega (arith, c.min-n.ensures) in
-    let few = take (t + n - t) (drop t numbers) in
-    let l : length few ≡ n = length-take-le (t + n - t) (drop t numbers) (simp length-drop (omega arith)) ∙ omega arith in
-    let m = put-more 32 t n (32 * length few) _ (boxes_of sha256 c.args.round t few (take (length chances - 32 * t) (drop (32 * t) chances))) _ _ _
-    (rw l) (omega (arith, l, c.requires.room)) (length-boxes sha256 c.args.round length-sha256 few _ t) c.close_eight.ensures c.loop-t.invariant.0 in
-    (rw (← boxes-more sha256 c.args.round numbers chances t n h) m, h)
+pub invariant_of-group : goal.invariant_of-group
+invariant_of-group c =
+    let s = c.in-Some.ensures.steps in
+    let v = c.loop-i.invariant in
+    let h : 8 * c.in-Some.i + length c.in-Some.numbers.now ≤ length c.args.numbers.now =
+    group-within c.args.round c.args.numbers.now c.args.chances.now c.args.out.now _ _ _ _ _ _ v.3 s.1 s.0.1.0 s.0.1.2 in
+    record { few = omega (arith, v.2, s.0.1.1); trains = omega (arith, h, c.requires.trains); room = simp (length-take, length-drop) (omega (arith, h, c.requires.chances)) }
+
+pub loop-i-preserved : goal.loop-i-preserved
+loop-i-preserved c =
+    let s = c.in-Some.ensures.steps in
+    let v = c.loop-i.invariant in (
+      search rules,
+      tt,
+      s.0.0 ∙ v.2,
+      closed-more c.args.round c.args.numbers.now c.args.chances.now c.args.out.now _ _ _ _ _ _ _ _ v.3 s.1 s.2 s.0.1.0 (rw v.2 at s.0.1.1) s.0.1.2 (omega (arith, c.requires.room, c.loop-i.auto.out)) c.write_boxes.ensures,
+    )
 
 pub returns : goal.returns
-returns c =
-    let t = c.loop-t.t in
-    let numbers = c.args.numbers.now in
-    let e : t ≡ length numbers = omega (arith, c.loop-t.invariant.1) in
-    put_all 32 t _ _ _ c.loop-t.invariant.0 ∙ (rw (take_all t numbers c.loop-t-test.false, e))
+returns c = closed_all c.args.round c.args.numbers.now c.args.chances.now c.args.out.now _ _ _ c.loop-i.invariant.3 c.in-None.ensures.steps.0.1.0

@@ -1,13 +1,12 @@
--- The boxes of the first t trains are put, and the rest is as it was.
-use Rattle.std.proofs.Common.{◌-◌, ◌≤◌, length, take}
-use Rattle.sha256.specs.Sha256.{sha256}
-use Rattle.boxes.specs.Box.{boxes_of}
-use Rattle.boxes.proofs.Parts.{Put}
+-- The boxes of the groups so far are put, and the rest is as it was.
+use Rattle.std.proofs.Common.{◌≡◌}
+use Rattle.std.specs.Iterator.Adapters.{enumerate_count, enumerate_source}
+use Rattle.std.specs.Slice.Iter.{chunks_rest, chunks_size}
+use Rattle.boxes.proofs.Groups.{Closed}
 use Rattle.boxes.proofs.all.write_all.Given as goal
 
-abbrev pub invariant-loop-t : goal.invariant-loop-t
-invariant-loop-t l =
-    Put 32 l.t (boxes_of sha256 l.round 0 (take l.t l.numbers) l.chances) l.out l.initial.out × (l.t ≤ length l.numbers)
-
-abbrev pub decreases-loop-t : goal.decreases-loop-t
-decreases-loop-t l = length l.numbers - l.t
+abbrev pub invariant-loop-i : goal.invariant-loop-i
+invariant-loop-i l =
+    (goal.iterator-loop-i).can_next l.i-iterator × (goal.iterator-loop-i).is_finite l.i-iterator
+    × (chunks_size (enumerate_source l.i-iterator) ≡ 8)
+    × Closed l.round l.numbers l.chances l.initial.out (enumerate_count l.i-iterator) (chunks_rest (enumerate_source l.i-iterator)) l.out

@@ -1,6 +1,8 @@
+use Rattle.std.proofs.Common.{ap, refl, ◌∙◌}
 use Rattle.tasks.specs.Model.{task_of}
-use Rattle.round.proofs.Rounds.{pair_past}
+use Rattle.tasks.specs.Pair.{pair_of}
+use Rattle.round.proofs.Rounds.{asked-or_lowest}
 use Rattle.round.proofs.testing.asked_pair.Goals as goal
 
-pub returns-in-Err : goal.returns-in-Err
-returns-in-Err c = pair_past (task_of c.args.task.now) c.args.pair _ c.in-Err.ensures
+pub returns : goal.returns
+returns c = ap pair_of c.unwrap_or.ensures ∙ asked-or_lowest (task_of c.args.task.now) _ _ _ c.pair_at.ensures refl
