@@ -11,12 +11,8 @@ fn word(text: &[u8; 39], t: usize) -> u32
     requires { t < 9 }
     ensures { result ≡ word_of (padded text.now) t }
 {
-    u32::from_be_bytes([
-        text[4 * t],
-        text[4 * t + 1],
-        text[4 * t + 2],
-        text[4 * t + 3],
-    ])
+    let (quads, _) = text.as_chunks::<4>();
+    u32::from_be_bytes(quads[t])
 }
 
 // Word 9 of a text: its last three bytes and the byte 0x80 of the padding.

@@ -64,27 +64,6 @@ word_at b q t e =
     let z = add-zero (4 * t) in
     cc
 
--- one more byte is put
-pub take_put : (xs : List ℕ) (i j y : ℕ) → j ≡ i + 1 → i < length xs → take j (set xs i y) ≡ take i xs ++ y ∷ []
-take_put xs i j y e h = rw e (take_more_set xs i y h)
-
-pub put_four : (xs : List ℕ) (i p q r s : ℕ)
-    → i + 4 ≤ length xs
-    → take (i + 4) (set (set (set (set xs i p) (i + 1) q) (i + 2) r) (i + 3) s) ≡ take i xs ++ (p ∷ q ∷ r ∷ s ∷ [])
-put_four xs i p q r s h =
-    let x1 = set xs i p in
-    let x2 = set x1 (i + 1) q in
-    let x3 = set x2 (i + 2) r in
-    let l1 : i + 1 < length x1 = lt-length-set xs i p (omega arith) in
-    let l2 : i + 2 < length x2 = lt-length-set x1 (i + 1) q (lt-length-set xs i p (omega arith)) in
-    let l3 : i + 3 < length x3 = lt-length-set x2 (i + 2) r (lt-length-set x1 (i + 1) q (lt-length-set xs i p (omega arith))) in
-    let e1 = take_put xs i (i + 1) p refl (omega arith) in
-    let e2 = take_put x1 (i + 1) (i + 2) q (omega arith) l1 in
-    let e3 = take_put x2 (i + 2) (i + 3) r (omega arith) l2 in
-    let e4 = take_put x3 (i + 3) (i + 4) s (omega arith) l3 in
-    let f : take (i + 4) (set x3 (i + 3) s) ≡ (((take i xs ++ p ∷ []) ++ q ∷ []) ++ r ∷ []) ++ s ∷ [] = cc in
-    f ∙ simp append_assoc
-
 -- a list that is put over zeros, from the front
 put_zero : (xs : List ℕ) (i k y : ℕ) → length xs ≡ i → set (xs ++ replicate (suc k) 0) i y ≡ xs ++ y ∷ replicate k 0
 put_zero xs i k y e = set_at xs 0 (replicate k 0) y i e
@@ -97,36 +76,6 @@ mark_after xs ys y e l =
     let d = drop-replicate {X = ℕ} (length xs) 64 0 in
     let s : 64 - length xs ≡ suc k = omega arith in
     let p = put_zero xs (length xs) k y refl in
-    cc
-
--- the four bytes b of the word x
-pub put_word : (xs b : List ℕ) (i x : ℕ)
-    → b ≡ (x / 16777216 % 256) ∷ (x / 65536 % 256) ∷ (x / 256 % 256) ∷ (x % 256) ∷ [] → i + 4 ≤ length xs
-    → take (i + 4) (set (set (set (set xs i (get_or b 0 0)) (i + 1) (get_or b 1 0)) (i + 2) (get_or b 2 0)) (i + 3) (get_or b 3 0))
-    ≡ take i xs ++ bytes 4 x
-put_word xs b i x e h = rw e (put_four xs i _ _ _ _ h ∙ ap (λ (ys : List ℕ). take i xs ++ ys) (bytes-four x))
-
--- one more byte of z after the bytes s, which end at `from`
-pub tail_more : (b s z : List ℕ) (from i : ℕ)
-    → from + i < length b → i < length z → take (from + i) b ≡ s ++ take i z
-    → take (from + (i + 1)) (set b (from + i) (get_or z i 0)) ≡ s ++ take (i + 1) z
-tail_more b s z from i h l e =
-    let p = take_put b (from + i) (from + (i + 1)) (get_or z i 0) (omega arith) h in
-    let t = take_more z i 0 l in
-    let a = append_assoc s (take i z) (get_or z i 0 ∷ []) in
-    cc
-
--- all eight bytes of the number of bits, from its remainder
-pub tail_all : (b s z : List ℕ) (i n : ℕ)
-    → i ≡ 8 → length b ≡ 64
-    → z ≡ (n / 72057594037927936 % 256) ∷ (n / 281474976710656 % 256) ∷ (n / 1099511627776 % 256) ∷ (n / 4294967296 % 256)
-    ∷ (n / 16777216 % 256) ∷ (n / 65536 % 256) ∷ (n / 256 % 256) ∷ (n % 256) ∷ [] → take (56 + i) b ≡ s ++ take i z
-    → b ≡ s ++ bytes 8 n
-tail_all b s z i n ei l ez h =
-    let f : z ≡ bytes 8 n = ez ∙ bytes_eight n in
-    let k : length z ≡ 8 = ap length ez in
-    let t = take_all (56 + i) b (omega arith) in
-    let u = take_all i z (omega arith) in
     cc
 
 -- the bytes ys of one more word

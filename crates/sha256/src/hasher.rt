@@ -4,7 +4,7 @@ ghost use Rattle.std.specs.Prelude.{◌<◌};
 use crate::state::State;
 
 // The hash value after the whole blocks, the `held` bytes that came after them, and the number of all
-// bytes modulo 2^64.
+// bytes modulo 2^64. The block is of fixed size, since nothing here takes memory from the heap.
 #[derive(Clone, Copy)]
 pub struct Hasher {
     pub(crate) state: State<u32>,

@@ -22,16 +22,6 @@ pub(crate) fn blocks(start: State<u32>, part: &[u8]) -> (State<u32>, &[u8])
     (s, rest)
 }
 
-// The bytes of `rest`, the byte 0x80 and zeros.
-fn marked(rest: &[u8]) -> [u8; 64]
-    requires { length rest.now < 64 }
-    ensures { result ≡ rest.now ++ 0x80 ∷ replicate (63 - length rest.now) 0 }
-{
-    let mut block = filled([0; 64], 0, rest);
-    block[rest.len()] = 0x80;
-    block
-}
-
 // The block with the number of bits in its last eight bytes.
 fn sized(start: [u8; 64], total: u64) -> [u8; 64]
     ensures { result ≡ take 56 start ++ bytes_of 8 (8 * total) }
@@ -44,7 +34,8 @@ fn last(s: State<u32>, rest: &[u8], total: u64) -> State<u32>
     requires { length rest.now < 64 }
     ensures { (n : ℕ) → n % 64 ≡ length rest.now → n % 2 ^ 64 ≡ total → result ≡ hashed s (rest.now ++ padding n) (length (rest.now ++ padding n) / 64) }
 {
-    let block = marked(rest);
+    let mut block = filled([0; 64], 0, rest);
+    block[rest.len()] = 0x80;
     if rest.len() < 56 {
         compress(s, &sized(block, total))
     } else {

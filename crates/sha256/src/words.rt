@@ -123,6 +123,7 @@ pub(crate) fn small_sigma1<W: Words>(x: W) -> W
     x.rotr(17).xor(x.rotr(19)).xor(x.shr(10))
 }
 
+#[tactic(auto, unfolding(crate::specs::Sha256::K))]
 pub(crate) fn constant(t: usize) -> u32
     requires { t < 64 }
     ensures { result ≡ slice_index constants t }

@@ -1,15 +1,13 @@
 -- The four bytes are those of the definition.
-use Rattle.std.proofs.Common.{◌≡◌, ℕ, List, length, ◌∙◌, rules}
-use Rattle.sha256.specs.Sha256.{word}
+use Rattle.std.proofs.Common.{◌≡◌, ℕ, ◌/◌, List, [], length, get_or, ap, ◌∙◌, arith, rules}
+use Rattle.sha256.proofs.Bytes.{chunk_drop, word_at}
 use Rattle.lanes.proofs.States.{word_front}
 use Rattle.lanes.proofs.blocks.word.Goals as goal
-
-plain : (c : goal.After-from_be_bytes) → c.from_be_bytes.result ≡ word c.args.text.now c.args.t
-unfolding word
-plain c = cc
 
 pub returns : goal.returns
 returns c =
     let text : List ℕ = c.args.text.now in
+    let t = c.args.t in
     let l : length text ≡ 39 = search rules in
-    plain c ∙ word_front text c.args.t l c.requires
+    let quad = ap (λ x. get_or x t []) c.as_chunks.ensures.front ∙ chunk_drop 4 text [] (length text / 4) t (omega arith) in
+    c.from_be_bytes.ensures ∙ (word_at text _ t quad ∙ word_front text t l c.requires)
