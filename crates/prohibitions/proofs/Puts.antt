@@ -38,11 +38,6 @@ unfolding put
 put_least x [] = omega arith
 put_least x (y ∷ ys) = let h = put_least x ys in grind arith
 
-pub put_most : (x : Pair) (ys : List Pair) → length (put x ys) ≤ length ys + 1
-unfolding put
-put_most x [] = omega arith
-put_most x (y ∷ ys) = let h = put_most x ys in grind arith
-
 pub put_all_least : (xs ys : List Pair) → length ys ≤ length (put_all xs ys)
 unfolding put_all
 put_all_least [] ys = omega arith
