@@ -5,7 +5,7 @@ use Rattle.paths.specs.Count.{same_row}
 use Rattle.boxes.specs.Binding.{collides}
 use Rattle.boxes.proofs.Binds.{collides_from}
 use Rattle.boxes.proofs.Parts.{same_parts}
-use Rattle.boxes.proofs.Same.{same_decides}
+use Rattle.paths.proofs.Same.{same_decides}
 use Rattle.book.specs.Lengths.{TaskText, RoundText}
 use Rattle.book.specs.Chain.{next_digest, after, breach, Sized, Binds}
 use Rattle.book.proofs.Uses.{no_task_lem}

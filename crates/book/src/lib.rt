@@ -18,6 +18,7 @@ pub fn start(task: &[u8]) -> [u8; 32]
     digest(task)
 }
 
+// The words are passed one by one, in the order in which they are hashed: a struct would be made at each call, and taken apart here.
 fn add_words(h: &mut Hasher, boxes: &[u8], ask: &[u8], opened: &[u8], end: &[u8])
     ensures { (m : List ℕ) → Holds h.old m → Holds h.new (m ++ boxes.now ++ ask.now ++ opened.now ++ end.now) }
 {

@@ -5,7 +5,7 @@ use Rattle.paths.specs.Count.{same_row}
 use Rattle.boxes.specs.Box.{Opening, text_of, opens_box}
 use Rattle.boxes.specs.Binding.{collides, same_opening, texts_of, opened_twice, collision_of, Binds}
 use Rattle.boxes.proofs.Bytes.{bytes_same}
-use Rattle.boxes.proofs.Same.{same_decides, same-itself}
+use Rattle.paths.proofs.Same.{same_decides, same_itself}
 use Rattle.boxes.proofs.Texts.{text-parts}
 
 -- two different texts of one digest
@@ -13,7 +13,7 @@ pub collides_from : (H : List ℕ → List ℕ) (a b : List ℕ) → same_row a 
 collides_from H a b d e = and_from _ _ (not_from_false _ d) ((same_decides _ _).1 e)
 
 pub same_opening-itself : (x : Opening) → same_opening x x ≡ true
-same_opening-itself x = and_from _ _ (and_from _ _ (eq-eqb x.train _ refl) (eq-eqb x.number _ refl)) (same-itself x.chance)
+same_opening-itself x = and_from _ _ (and_from _ _ (eq-eqb x.train _ refl) (eq-eqb x.number _ refl)) (same_itself x.chance)
 
 module _ (x y : Opening) where
   pub opening_same : x.train ≡ y.train → x.number ≡ y.number → x.chance ≡ y.chance → x ≡ y

@@ -5,6 +5,7 @@ ghost use Rattle.boxes.specs.Box.{boxes_of, closable, Laid};
 
 use super::group::Group;
 
+// Chunks of `out` that are lent by `chunks_mut` are left out: the library says nothing of what a slice holds after them.
 fn write_all(round: u32, numbers: &[u8], chances: &[u8], out: &mut [u8])
     requires trains { length numbers.now ≤ 2 ^ 16 }
     requires chances { length chances.now ≡ 32 * length numbers.now }
@@ -30,7 +31,7 @@ fn fits(trains: usize, chances: usize, room: usize) -> bool
 }
 
 // Writes the boxes of the trains 0, 1, .. to the front of `out`, one for each number; the chances stand one after the other. Where it answers false, which
-// is where the lengths don't fit or there are more than 65536 numbers, `out` stays as it is.
+// is where the lengths don't fit or there are more than 65536 numbers, `out` stays as it is. A bool, since there is nothing to hand on, and C takes it as it is.
 pub fn close_all(round: u32, numbers: &[u8], chances: &[u8], out: &mut [u8]) -> bool
     ensures answer { result ≡ closable (length numbers.now) (length chances.now) (length out.old) }
     ensures boxes { out.new ≡ (if result then boxes_of sha256 round 0 numbers.now chances.now ++ drop (32 * length numbers.now) out.old else out.old) }

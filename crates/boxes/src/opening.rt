@@ -14,6 +14,7 @@ pub struct Opening {
 }
 
 // Is the box that of the opening?
+#[tactic(auto, using(paths::proofs::Same::pointwise_same))]
 pub fn opens(digest: [u8; 32], round: u32, opening: Opening) -> bool
     ensures { result ≡ opens_box sha256 digest round (opening_of opening) }
 {

@@ -9,7 +9,7 @@ use Rattle.paths.proofs.Paired.{pair-paths}
 use Rattle.tasks.specs.Task.{lowest}
 use Rattle.boxes.specs.Box.{box_text, boxes_of}
 use Rattle.boxes.proofs.Boxes.{laid}
-use Rattle.boxes.proofs.Same.{same-itself}
+use Rattle.paths.proofs.Same.{same_itself}
 use Rattle.lots.specs.Lots.{Lot}
 use Rattle.round.specs.Round.{held, part_of, opening_for, opens_in, Complete}
 
@@ -19,7 +19,7 @@ module _ (H : List ℕ → List ℕ) (h : (x : List ℕ) → length (H x) ≡ 32
   opens_own n p l i k =
       let e = (laid H h).each n 0 (held p l.order) l.chances i (rw length-map k) in
       let v : at (held p l.order) i ≡ at l.order (at p i) = get_or-map (at l.order) p i 0 0 k in
-      rw (e, zero-add i, v) (same-itself (H (box_text n i (at l.order (at p i)) (part_of l.chances i))))
+      rw (e, zero-add i, v) (same_itself (H (box_text n i (at l.order (at p i)) (part_of l.chances i))))
 
   pub complete : Complete H
   complete t good p fp l o n i k =

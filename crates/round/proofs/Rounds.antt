@@ -25,7 +25,7 @@ use Rattle.boxes.specs.Box.{Opening, text_of, boxes_of, closable}
 use Rattle.boxes.proofs.Boxes.{length-boxes}
 use Rattle.boxes.proofs.Parts.{first_chunks_at}
 use Rattle.boxes.proofs.Digests.{length-sha256}
-use Rattle.boxes.proofs.Same.{same_decides}
+use Rattle.paths.proofs.Same.{same_decides}
 use Rattle.words.specs.Said.{boxes}
 use Rattle.words.specs.Writing.{said_bytes, wrote, no_room}
 use Rattle.words.proofs.Puts.{put-behind, write-all, write-none}

@@ -16,9 +16,6 @@ module _ (t : Task) where
   pub boxes-length : (r : ℕ) (ds : List ℕ) → is_said t (boxes r ds) ≡ true → length (said_bytes (boxes r ds)) ≡ 7 + 32 * t.trains
   boxes-length r ds h = omega (arith, eqb-true _ _ (and_parts (is_round r) (eqb (length ds) (32 * t.trains)) h).1)
 
-  pub ask-length : (r i : ℕ) → length (said_bytes (ask r i)) ≡ 7
-  ask-length r i = refl
-
   chance-length : (o : Opening) → is_opening o ≡ true → length o.chance ≡ 32
   chance-length o h = eqb-true _ _ (and_parts (ltb o.train 65536) (eqb (length o.chance) 32) h).1
 
@@ -26,6 +23,3 @@ module _ (t : Task) where
   opened-length r x y h =
       let q = and_parts (is_opening x) (is_opening y) (and_parts (is_round r) (is_opening x && is_opening y) h).1 in
       opened-size r x y (chance-length x q.0) (chance-length y q.1)
-
-  pub end-length : (r : ℕ) (content : Bool) → length (said_bytes (end r content)) ≡ 6
-  end-length r content = refl

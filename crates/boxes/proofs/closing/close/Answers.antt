@@ -1,7 +1,7 @@
 use Rattle.std.proofs.Common.{ap, ◌∙◌}
 use Rattle.sha256.specs.Sha256.{sha256}
 use Rattle.boxes.specs.Box.{text_of}
-use Rattle.boxes.proofs.Same.{same-itself}
+use Rattle.paths.proofs.Same.{same_itself}
 use Rattle.boxes.proofs.Texts.{text_injective, text-long}
 use Rattle.boxes.proofs.closing.close.Goals as goal
 
@@ -11,5 +11,5 @@ returns c =
       value = c.digest.ensures ∙ ap sha256 c.text.ensures;
       injective = text_injective;
       long = text-long;
-      opened = λ hash round x. same-itself (hash (text_of round x));
+      opened = λ hash round x. same_itself (hash (text_of round x));
     }
