@@ -13,7 +13,7 @@ use Rattle.tasks.specs.Writing.{task_bytes}
 use Rattle.tasks.proofs.TaskLaws.{guarantees, task_law}
 use Rattle.tasks.proofs.Units.{cond-got, then_got}
 use Rattle.boxes.specs.Box.{Opening}
-use Rattle.boxes.proofs.Same.{same_decides}
+use Rattle.paths.proofs.Same.{same_decides}
 use Rattle.lots.specs.Lots.{Had, on_bytes, drawn, had_by, question_in}
 use Rattle.words.specs.Said.{Said, task, plan, boxes, ask, opened, end}
 use Rattle.words.specs.Reading.{read_word}

@@ -2,9 +2,7 @@
 ghost use Rattle.std.specs.Prelude.{◌≡◌};
 ghost use Rattle.tasks.specs.Model.{task_of};
 ghost use Rattle.tasks.specs.Reading.{looks, and_then};
-ghost use Rattle.words.specs.Said.{ask};
 ghost use Rattle.words.specs.Reading.{read_word};
-ghost use Rattle.words.specs.Writing.{said_bytes};
 ghost use Rattle.round.specs.Over.{leads};
 ghost use Rattle.asking.specs.Asking.{draw, on_boxes, question};
 ghost use Rattle.asking.specs.Model.{ready_of, drawn_of, asked_of};
@@ -16,7 +14,7 @@ use super::turning::stops;
 use lots::draw_question;
 use round::Over;
 use tasks::{Fault, Task};
-use words::{Word, read_word};
+use words::{Word, ask_bytes, read_word};
 
 impl Ready {
     // The question of this round, from the bytes that are drawn.
@@ -45,14 +43,6 @@ fn test_boxes(task: &Task, round: u32, bytes: &[u8]) -> Result<(), Fault>
         return Err(Fault::NotAwaited);
     }
     Ok(())
-}
-
-fn ask_bytes(round: u32, pair: u16) -> [u8; 7]
-    ensures { result ≡ said_bytes (ask round pair) }
-{
-    let [a, b, c, d] = round.to_be_bytes();
-    let [high, low] = pair.to_be_bytes();
-    [4, a, b, c, d, high, low]
 }
 
 impl Drawn {

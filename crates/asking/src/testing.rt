@@ -3,9 +3,7 @@ ghost use Rattle.std.specs.Prelude.{◌≡◌, [], drop, if◌then◌else◌};
 ghost use Rattle.sha256.specs.Sha256.{sha256};
 ghost use Rattle.tasks.specs.Model.{task_of};
 ghost use Rattle.tasks.specs.Reading.{looks, and_then};
-ghost use Rattle.words.specs.Said.{end};
 ghost use Rattle.words.specs.Reading.{read_word};
-ghost use Rattle.words.specs.Writing.{said_bytes, is_got};
 ghost use Rattle.round.specs.Over.{leads};
 ghost use Rattle.round.specs.Round.{test_opened};
 ghost use Rattle.asking.specs.Asking.{is_opened_of, test, settle};
@@ -18,7 +16,7 @@ use super::tested::Tested;
 use super::turning::{stops, turn};
 use round::{Over, test_opened};
 use tasks::{Fault, Task};
-use words::{Word, read_word};
+use words::{Word, behind_head, end_bytes, read_word};
 
 fn is_opened_of(task: &Task, round: u32, bytes: &[u8]) -> bool
     ensures { result ≡ is_opened_of round (read_word (task_of task.now) bytes.now) }
@@ -36,28 +34,11 @@ fn opened_of(task: &Task, round: u32, bytes: &[u8]) -> Option<[u8; 75]>
     bytes.try_into().ok()
 }
 
-// What stands behind the head of a Boxes word; nothing where it is cut.
-fn digests_in(boxes: &[u8]) -> &[u8]
-    ensures { result.now ≡ drop 7 boxes.now }
-{
-    let [_, _, _, _, _, _, _, digests @ ..] = boxes else {
-        return &[];
-    };
-    digests
-}
-
 fn test_answer(task: &Task, round: u32, pair: u16, boxes: &[u8], bytes: &[u8]) -> Result<(), Fault>
     ensures { looks result ≡ and_then (read_word (task_of task.now) bytes.now) (test_opened sha256 (task_of task.now) round pair (drop 7 boxes.now)) }
 {
     let word = read_word(task, bytes)?;
-    test_opened(task, round, pair, digests_in(boxes), word)
-}
-
-fn end_bytes(round: u32, content: bool) -> [u8; 6]
-    ensures { result ≡ said_bytes (end round content) }
-{
-    let [a, b, c, d] = round.to_be_bytes();
-    [6, a, b, c, d, content as u8]
+    test_opened(task, round, pair, behind_head(boxes), word)
 }
 
 impl Asked {

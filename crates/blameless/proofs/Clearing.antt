@@ -5,7 +5,7 @@ use Rattle.paths.specs.Count.{same_row}
 use Rattle.tasks.specs.Task.{sound}
 use Rattle.tasks.specs.Writing.{task_bytes}
 use Rattle.tasks.proofs.TaskLaws.{guarantees}
-use Rattle.boxes.proofs.Same.{same_decides}
+use Rattle.paths.proofs.Same.{same_decides}
 use Rattle.book.specs.Chain.{Sized}
 use Rattle.words.proofs.Laws.{word_law}
 use Rattle.round.specs.Line.{Event, sent, Ran}

@@ -6,7 +6,7 @@ use Rattle.paths.specs.Plan.{Task, Plan}
 use Rattle.paths.specs.Count.{same_row}
 use Rattle.tasks.specs.Reading.{got}
 use Rattle.tasks.specs.Writing.{task_bytes}
-use Rattle.boxes.proofs.Same.{same_decides, same-itself}
+use Rattle.paths.proofs.Same.{same_decides, same_itself}
 use Rattle.book.specs.Chain.{after}
 use Rattle.words.specs.Said.{end}
 use Rattle.words.specs.Reading.{read_word}
@@ -22,8 +22,8 @@ use Rattle.blameless.specs.Blameless.{told_of}
 
 -- an End of the round is one, and what is refused is none
 is_end_lem : (n : ℕ) (c : Bool) → is_end n (heard (said_bytes (end n c))) ≡ true
-is_end_lem n true = or_left _ _ (same-itself (said_bytes (end n true)))
-is_end_lem n false = or_right (same_row (said_bytes (end n false)) (said_bytes (end n true))) _ (same-itself (said_bytes (end n false)))
+is_end_lem n true = or_left _ _ (same_itself (said_bytes (end n true)))
+is_end_lem n false = or_right (same_row (said_bytes (end n false)) (said_bytes (end n true))) _ (same_itself (said_bytes (end n false)))
 
 module _ (t : Task) (law : WordLaw t) (n : ℕ) (few : n < 2 ^ 24) (w : List ℕ) where
   not_read : (f : ℕ) (c : Bool) → Refused t (AnEnd n) w f → read_word t w ≡ got (end n c) → ⊥

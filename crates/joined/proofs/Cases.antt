@@ -12,7 +12,7 @@ use Rattle.tasks.specs.Reading.{got, refused, and_then}
 use Rattle.book.specs.Chain.{Sized}
 use Rattle.boxes.specs.Box.{Opening, text_of, boxes_of}
 use Rattle.boxes.proofs.Boxes.{laid}
-use Rattle.boxes.proofs.Same.{same_decides}
+use Rattle.paths.proofs.Same.{same_decides}
 use Rattle.words.specs.Said.{opened, end}
 use Rattle.words.specs.Reading.{read_word}
 use Rattle.words.specs.Writing.{said_bytes}

@@ -11,7 +11,7 @@ use Rattle.tasks.specs.Task.{sound}
 use Rattle.tasks.specs.Writing.{task_bytes}
 use Rattle.tasks.proofs.TaskLaws.{guarantees}
 use Rattle.book.specs.Chain.{Sized, after}
-use Rattle.boxes.proofs.Same.{same-itself}
+use Rattle.paths.proofs.Same.{same_itself}
 use Rattle.lots.specs.Lots.{Had, Lot, drawn, had_by, each_as, lot_in, question_in, in_turn}
 use Rattle.lots.specs.Laws.{LotHad}
 use Rattle.lots.proofs.Chances.{below-drop}
@@ -272,7 +272,7 @@ module _ (H : List ℕ → List ℕ) (sized : Sized H) (t : Task) (good : sound 
   meets w e same = rw (e, same) refl
 
   met : asking.meet H record { task = t; rounds = r } (task_bytes t) ≡ asking.turn (asker_at 0 [])
-  met = meets (task_bytes t) (task-reads H sized t good p fp r few) (same-itself (task_bytes t))
+  met = meets (task_bytes t) (task-reads H sized t good p fp r few) (same_itself (task_bytes t))
 
 pub joins : Joins
 unfolding joined given

@@ -13,7 +13,7 @@ use Rattle.tasks.proofs.TaskLaws.{Guarantees, guarantees}
 use Rattle.fitting.specs.Pairs.{asked_pair}
 use Rattle.boxes.specs.Box.{boxes_of}
 use Rattle.boxes.proofs.Boxes.{length-boxes}
-use Rattle.boxes.proofs.Same.{same-itself}
+use Rattle.paths.proofs.Same.{same_itself}
 use Rattle.book.specs.Chain.{Sized, after}
 use Rattle.lots.specs.Lots.{Had, Lot, lot_in}
 use Rattle.lots.specs.Laws.{LotHad}
@@ -37,7 +37,7 @@ use Rattle.cutting.proofs.Cuts.{round_with, cut-whole, cut_short_lem}
 first_same : (ds : List ℕ) (i m : ℕ) → first_from (other_box ds ds) i m ≡ None
 unfolding first_from
 first_same ds i zero = refl
-first_same ds i (suc m) = rw (same-itself (part_of ds i)) (first_same ds (i + 1) m)
+first_same ds i (suc m) = rw (same_itself (part_of ds i)) (first_same ds (i + 1) m)
 
 module _ (H : List ℕ → List ℕ) (sized : Sized H) (t : Task) (s : sound t ≡ true) (p : Plan) (fp : fits t p ≡ true) where
   g : Guarantees t
@@ -110,7 +110,7 @@ module _ (H : List ℕ → List ℕ) (sized : Sized H) (t : Task) (s : sound t �
     whole_again c =
         let word = opened_word H t p n h.what i in
         let a : other_answer t n p h.what (whole c) ≡ None =
-        rw (eq-eqb (length word) 75 opened-long, lt-ltb i (length t.pairs) there, same-itself (take 35 (drop 5 word)), same-itself (take 35 (drop 40 word))) refl in
+        rw (eq-eqb (length word) 75 opened-long, lt-ltb i (length t.pairs) there, same_itself (take 35 (drop 5 word)), same_itself (take 35 (drop 40 word))) refl in
         again (whole c) (ap (λ o. or_else o (other_answer t n p h.what (whole c))) (first_same digests 0 t.trains) ∙ a)
 
     short_again : redrawn_in H t (Some p) n short drawn ≡ agrees
@@ -187,6 +187,6 @@ pub honest_passes : (H : List ℕ → List ℕ) → Sized H → HonestPasses H
 honest_passes H sized t s p fp drawn b ws texts c run k =
     let f = found H sized t s p fp 0 drawn ws texts c run (rw b tt) (omega arith) in
     let digest = after H (task_bytes t) (reverse texts) in
-    let same : same_row (book_of H t f.rounds) digest ≡ true = rw f.told (same-itself digest) in
+    let same : same_row (book_of H t f.rounds) digest ≡ true = rw f.told (same_itself digest) in
     let n : length f.rounds ≡ length texts = sym (length-map f.rounds text_of) ∙ ap length f.told in
     ap (judge H t (Some p) drawn digest) f.cuts ∙ rw (same, n, f.content, f.redrawn) refl

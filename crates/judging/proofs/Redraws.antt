@@ -6,7 +6,7 @@ use Rattle.paths.specs.Show.{pair_at}
 use Rattle.paths.specs.Count.{same_row}
 use Rattle.tasks.specs.Reading.{Got, got, refused}
 use Rattle.boxes.specs.Box.{boxes_of}
-use Rattle.boxes.proofs.Same.{same_decides}
+use Rattle.paths.proofs.Same.{same_decides}
 use Rattle.lots.specs.Lots.{Had, Lot, lot_in}
 use Rattle.words.specs.Writing.{said_bytes}
 use Rattle.round.specs.Round.{held, part_of, opened_for}

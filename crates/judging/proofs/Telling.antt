@@ -3,7 +3,7 @@ use Rattle.std.proofs.Common.{◌≡◌, ℕ, Bool, true, false, List, ◌++◌,
 use Rattle.paths.specs.Plan.{Plan}
 use Rattle.paths.specs.Count.{same_row}
 use Rattle.tasks.specs.Reading.{Got, got, refused}
-use Rattle.boxes.proofs.Same.{same_decides}
+use Rattle.paths.proofs.Same.{same_decides}
 use Rattle.lots.specs.Lots.{lot_in}
 use Rattle.lots.proofs.Following.{lot_follows}
 use Rattle.judging.specs.Verdict.{Content, Redrawn, other_words, judged}

@@ -1,5 +1,5 @@
 // Whether the asker was content with a round, its opening looked at again.
-ghost use Rattle.std.specs.Prelude.{◌≡◌, drop, vec_items};
+ghost use Rattle.std.specs.Prelude.{◌≡◌, vec_items};
 ghost use Rattle.sha256.specs.Sha256.{sha256};
 ghost use Rattle.tasks.specs.Model.{task_of};
 ghost use Rattle.tasks.specs.Reading.{looks};
@@ -12,16 +12,7 @@ use cutting::Round;
 use fitting::pair_at;
 use round::test_opened;
 use tasks::{Fault, Task};
-use words::read_word;
-
-pub(super) fn behind_head(boxes: &[u8]) -> &[u8]
-    ensures { result.now ≡ drop 7 boxes.now }
-{
-    let [_, _, _, _, _, _, _, digests @ ..] = boxes else {
-        return &[];
-    };
-    digests
-}
+use words::{behind_head, read_word};
 
 // The bytes of the Opened, and none where there is none.
 pub(super) fn opened_in(round: &Round) -> &[u8]

@@ -14,13 +14,14 @@ ghost use Rattle.judging.specs.Plans.{plan_in};
 
 use super::given::Given;
 use super::judge::Judge;
-use super::looking::{Closed, behind_head, opened_in};
+use super::looking::{Closed, opened_in};
 use super::verdict::Redrawn;
 use cutting::Round;
 use fitting::pair_at;
 use lots::{Had, draw_lot};
 use round::{opened_word, write_boxes};
 use tasks::Pair;
+use words::behind_head;
 
 // So many bytes from a place on, or those that are there.
 fn part(bytes: &[u8], at: usize, size: usize) -> &[u8]
@@ -44,7 +45,7 @@ fn first_other(trains: u16, digests: &[u8], given: &[u8]) -> Option<u16>
     (0..trains).find(|train| other_box(digests, given, *train))
 }
 
-#[tactic(auto, using(boxes::proofs::Same::pointwise_same))]
+#[tactic(auto, using(paths::proofs::Same::pointwise_same))]
 fn other_opening(pair: Pair, word: &[u8], given: &[u8]) -> Option<u16>
     ensures { result ≡ other_opening pair.first pair.second word.now given.now }
 {
@@ -73,14 +74,7 @@ impl Given<'_> {
         let Ok(pair) = pair_at(task, round.asked.pair) else {
             return Some(0);
         };
-        let given = opened_word(
-            task,
-            self.plan,
-            number,
-            &self.lot.order,
-            self.lot.chances,
-            round.asked.pair,
-        );
+        let given = opened_word(task, self.plan, number, &self.lot, round.asked.pair);
         other_opening(pair, opened, &given.unwrap())
     }
 
@@ -89,13 +83,7 @@ impl Given<'_> {
         requires { length memory.old ≡ 7 + 32 * self.now.closed.task.now.trains }
         ensures { drop 7 memory.new ≡ boxes_of sha256 self.now.closed.number 0 (held (plan_of self.now.plan.now) (order_of self.now.lot.order)) self.now.lot.chances.now }
     {
-        write_boxes(
-            self.plan,
-            self.closed.number,
-            &self.lot.order,
-            self.lot.chances,
-            memory,
-        );
+        write_boxes(self.plan, self.closed.number, &self.lot, memory);
     }
 
     // The first train with another box, or else another opening.

@@ -41,13 +41,7 @@ impl Ready {
         ensures boxes { self.new.boxes.items ≡ said_bytes (boxes_for sha256 self.old.round (plan_of self.old.plan) (lot_of lot.now)) }
     {
         self.chances.copy_from_slice(lot.chances);
-        write_boxes(
-            &self.plan,
-            self.round,
-            &lot.order,
-            lot.chances,
-            &mut self.boxes,
-        );
+        write_boxes(&self.plan, self.round, lot, &mut self.boxes);
     }
 
     // The boxes of the round closed with a lot from the drawn bytes, or the end by fault 11.
@@ -72,15 +66,11 @@ fn open(closed: &Closed, pair: u16) -> [u8; 75]
     ensures { result ≡ said_bytes (opened_for (task_of closed.now.ready.task) closed.now.ready.round (plan_of closed.now.ready.plan) (closed_of closed.now).lot pair) }
 {
     let ready = &closed.ready;
-    opened_word(
-        &ready.task,
-        &ready.plan,
-        ready.round,
-        &closed.order,
-        &ready.chances,
-        pair,
-    )
-    .unwrap()
+    let lot = Lot {
+        order: closed.order,
+        chances: &ready.chances,
+    };
+    opened_word(&ready.task, &ready.plan, ready.round, &lot, pair).unwrap()
 }
 
 impl Closed {

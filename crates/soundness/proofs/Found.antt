@@ -9,7 +9,7 @@ use Rattle.paths.specs.Cheat.{asks}
 use Rattle.tasks.specs.Task.{sound}
 use Rattle.boxes.specs.Box.{Opening, text_of}
 use Rattle.boxes.specs.Binding.{TwoTexts, collides, same_opening, texts_of}
-use Rattle.boxes.proofs.Same.{same_decides, same-itself}
+use Rattle.paths.proofs.Same.{same_decides, same_itself}
 use Rattle.boxes.proofs.Binds.{same_opening_lem}
 use Rattle.round.specs.Line.{Event, heard, Other}
 use Rattle.round.specs.Over.{Over, on, out}
@@ -56,7 +56,7 @@ module _ (H : List ℕ → List ℕ) (other : Other) where
         other_opening_lem : same_opening x y ≡ false
         other_opening_lem =
             elim (cases_Bool (same_opening x y)) [
-              | inl s ↦ absurd (both_ways _ other_text (subst (λ z. same_row (text_of n x) (text_of n z) ≡ true) (same_opening_lem x y s) (same-itself (text_of n x))))
+              | inl s ↦ absurd (both_ways _ other_text (subst (λ z. same_row (text_of n x) (text_of n z) ≡ true) (same_opening_lem x y s) (same_itself (text_of n x))))
               | inr s ↦ s
             ]
 

@@ -14,7 +14,7 @@ use Rattle.tasks.specs.Task.{sound, lowest}
 use Rattle.tasks.proofs.TaskLaws.{guarantees}
 use Rattle.boxes.specs.Box.{Opening, text_of}
 use Rattle.boxes.specs.Binding.{collides, texts_of}
-use Rattle.boxes.proofs.Same.{same_decides}
+use Rattle.paths.proofs.Same.{same_decides}
 use Rattle.boxes.proofs.Binds.{opened-same}
 use Rattle.words.specs.Writing.{is_got}
 use Rattle.round.specs.Line.{Event, Other}
