@@ -42,7 +42,8 @@ impl<'a> Asker<'a> {
 
     // What is still to be sent at the end.
     pub fn send_last(&self) -> Result<(), Problem> {
-        match self.last {
+        let last = self.last;
+        match last {
             Some(end) => self.showing.line.send(&end),
             None => Ok(()),
         }

@@ -62,3 +62,23 @@ impl Input {
         }
     }
 }
+
+#[cfg(test)]
+mod tests {
+    use super::Input;
+    use std::test::Fail;
+
+    // Opens a file without end, and reads four bytes of it and then two.
+    #[test]
+    fn reads_on(rt: HostRuntime) -> Result<(), Fail> {
+        let name = String::from_str(rt.alloc(), "/dev/zero")?;
+        let mut input = Input::open(&rt, name).ok().ok_or("not opened")?;
+        let mut bytes = Vec::new(rt.alloc());
+        let first = input.read(4, &mut bytes).ok().ok_or("not read")?;
+        let second = input.read(2, &mut bytes).ok().ok_or("not read on")?;
+        assert_eq!(rt; first, 4);
+        assert_eq!(rt; second, 2);
+        assert!(rt; bytes.as_slice() == &[0, 0, 0, 0, 0, 0]);
+        Ok(())
+    }
+}

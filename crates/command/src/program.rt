@@ -37,3 +37,20 @@ pub fn exit_code(rt: &HostRuntime, usage: Usage, outcome: Result<Ending, Problem
         Err(()) => ExitCode::FAILURE,
     }
 }
+
+#[cfg(test)]
+mod tests {
+    use super::{Usage, read_arguments};
+    use std::test::Fail;
+
+    #[test]
+    fn reads_the_words(rt: HostRuntime) -> Result<(), Fail> {
+        let usage = Usage {
+            call: "",
+            options: "",
+        };
+        let words = read_arguments(&rt, usage).ok().ok_or("no words")?;
+        assert!(rt; words.is_some());
+        Ok(())
+    }
+}

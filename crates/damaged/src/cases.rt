@@ -158,9 +158,11 @@ impl<'a> Table<'a> {
         } else {
             part
         };
-        let taken = word.len();
-        let all = bytes.len();
-        println!(self.rt; "{name}: {whole}; stream: {answer}, {taken} of {all} bytes")?;
+        println!(self.rt;
+            "{name}: {whole}; stream: {answer}, {} of {} bytes",
+            word.len(),
+            bytes.len()
+        )?;
         Ok(())
     }
 
@@ -187,19 +189,17 @@ impl<'a> Table<'a> {
                 same = same.saturating_add(1);
             }
         }
-        let all = bytes.len();
         println!(self.rt;
-            "{name}, cut at each of {all} lengths: fault 1 at {ones}; stream: the same at {same}"
+            "{name}, cut at each of {} lengths: fault 1 at {ones}; stream: the same at {same}",
+            bytes.len()
         )?;
         Ok(())
     }
 
-    // Boxes of round 7 that say so many trains, with so many bytes of digests.
-    fn boxes(&self, trains: u8, size: usize) -> anyhow::Result<Vec<u8>> {
+    // Boxes of round 7 that say so many trains, with so many digests.
+    fn boxes(&self, trains: u8, digests: u8) -> anyhow::Result<Vec<u8>> {
         let mut bytes = Vec::from_slice(self.rt.alloc(), &[3, 0, 0, 0, 7, 0, trains])?;
-        for _i in 0..size {
-            bytes.push(170)?;
-        }
+        bytes.resize(7 + 32 * digests as usize, 170)?;
         Ok(bytes)
     }
 
@@ -215,7 +215,7 @@ impl<'a> Table<'a> {
     pub fn good_words(&self, task: &[u8]) -> anyhow::Result<()> {
         self.show_good("Task", task)?;
         self.show_good("Plan", &[2, 0, 3, 0, 1, 0])?;
-        self.show_good("Boxes", self.boxes(3, 96)?.as_slice())?;
+        self.show_good("Boxes", self.boxes(3, 3)?.as_slice())?;
         self.show_good("Ask", &[4, 0, 0, 0, 7, 0, 1])?;
         self.show_good("Opened", self.opened()?.as_slice())?;
         self.show_good("End", &[6, 0, 0, 0, 7, 1])?;
@@ -226,8 +226,8 @@ impl<'a> Table<'a> {
         for case in CASES {
             self.show(case.name, case.bytes)?;
         }
-        self.show("Boxes of 4 trains", self.boxes(4, 128)?.as_slice())?;
-        self.show("Boxes of 2 trains", self.boxes(2, 64)?.as_slice())?;
-        self.show("Boxes, a digest more", self.boxes(3, 128)?.as_slice())
+        self.show("Boxes of 4 trains", self.boxes(4, 4)?.as_slice())?;
+        self.show("Boxes of 2 trains", self.boxes(2, 2)?.as_slice())?;
+        self.show("Boxes, a digest more", self.boxes(3, 4)?.as_slice())
     }
 }

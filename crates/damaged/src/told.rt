@@ -1,5 +1,4 @@
 // What bytes are read as, in words.
-use boxes::Opening;
 use std::fmt;
 use tasks::Fault;
 use words::Word;
@@ -12,10 +11,7 @@ pub struct Told<'a> {
 impl<'a> fmt::Display for Told<'a> {
     fn fmt<W: fmt::Write>(&self, f: &mut fmt::Formatter<W>) -> fmt::Result {
         match &self.answer {
-            Err(fault) => {
-                let number = fault.number();
-                write!(f, "fault {number}")
-            }
+            Err(fault) => write!(f, "fault {}", fault.number()),
             Ok(word) => tell_word(*word, f),
         }
     }
@@ -23,17 +19,22 @@ impl<'a> fmt::Display for Told<'a> {
 
 fn tell_word<W: fmt::Write>(word: Word, f: &mut fmt::Formatter<W>) -> fmt::Result {
     match word {
-        Word::Task(bytes) => {
-            let size = bytes.len();
-            write!(f, "Task of {size} bytes")
-        }
+        Word::Task(bytes) => write!(f, "Task of {} bytes", bytes.len()),
         Word::Plan(paths) => tell_plan(paths, f),
-        Word::Boxes(round, digests) => {
-            let size = digests.len();
-            write!(f, "Boxes of round {round}, {size} bytes of digests")
-        }
+        Word::Boxes(round, digests) => write!(
+            f,
+            "Boxes of round {round}, {} bytes of digests",
+            digests.len()
+        ),
         Word::Ask(round, pair) => write!(f, "Ask of round {round}, pair {pair}"),
-        Word::Opened(round, first, second) => tell_opened(round, first, second, f),
+        Word::Opened(round, first, second) => write!(
+            f,
+            "Opened of round {round}, train {} has {}, train {} has {}",
+            first.train,
+            first.number,
+            second.train,
+            second.number
+        ),
         Word::End(round, true) => write!(f, "End of round {round}, content"),
         Word::End(round, false) => write!(f, "End of round {round}, not content"),
     }
@@ -45,20 +46,4 @@ fn tell_plan<W: fmt::Write>(paths: &[u8], f: &mut fmt::Formatter<W>) -> fmt::Res
         write!(f, " {path}")?;
     }
     Ok(())
-}
-
-fn tell_opened<W: fmt::Write>(
-    round: u32,
-    first: Opening,
-    second: Opening,
-    f: &mut fmt::Formatter<W>,
-) -> fmt::Result {
-    let a = first.train;
-    let x = first.number;
-    let b = second.train;
-    let y = second.number;
-    write!(
-        f,
-        "Opened of round {round}, train {a} has {x}, train {b} has {y}"
-    )
 }

@@ -1,28 +1,22 @@
 // The words of a showing, read from their file one by one, and the drawn bytes with them.
 use command::{Input, Problem};
+use cutting::Awaits;
 use judging::{Judge, Verdict};
 use keeping::Drawn;
 use line::read_word_from;
 use std::alloc::Global;
 use tasks::Task;
 
-// `filled` is how many rounds have had their drawn bytes.
 #[derive(Drop)]
 pub struct Hearing {
     heap: Global,
     words: Input,
     drawn: Option<Drawn>,
-    filled: u32,
 }
 
 impl Hearing {
     pub fn new(heap: Global, words: Input, drawn: Option<Drawn>) -> Hearing {
-        Hearing {
-            heap,
-            words,
-            drawn,
-            filled: 0,
-        }
+        Hearing { heap, words, drawn }
     }
 
     // All words, to the end of the file or to where they can't be rounds.
@@ -49,15 +43,15 @@ impl Hearing {
         }
     }
 
-    // The drawn bytes of the round, once it begins, where they are handed over.
+    // Where the word at hand is the first of a round, the drawn bytes of that round, if they are handed over.
     fn fill(&mut self, judge: &Judge) -> Result<(), Problem> {
-        if self.filled == judge.round {
-            if let Some(drawn) = &mut self.drawn {
-                drawn.lot(&judge.task)?;
-            }
-            self.filled = self.filled.saturating_add(1);
+        let Some(drawn) = &mut self.drawn else {
+            return Ok(());
+        };
+        match judge.awaits {
+            Awaits::Boxes | Awaits::Nothing => drawn.lot(&judge.task),
+            _ => Ok(()),
         }
-        Ok(())
     }
 
     fn drawn(&self) -> &[u8] {

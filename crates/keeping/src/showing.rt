@@ -115,3 +115,33 @@ pub trait Side {
         Err(Problem::Fault(Fault::TooManyRounds))
     }
 }
+
+#[cfg(test)]
+mod tests {
+    use super::super::options::Options;
+    use super::Showing;
+    use std::test::Fail;
+    use tasks::read_task;
+
+    // Three trains, two paths and one pair.
+    const TASK: [u8; 10] = [1, 0, 3, 2, 0, 1, 0, 0, 0, 1];
+
+    #[test]
+    fn opens_and_draws(rt: HostRuntime) -> Result<(), Fail> {
+        let task = read_task(rt.alloc(), &TASK).ok().ok_or("no task")?;
+        let options = Options {
+            drawn: String::from_str(rt.alloc(), "/dev/zero")?,
+            rounds: None,
+            book: None,
+            words: None,
+            progress: false,
+        };
+        let mut showing = Showing::open(&rt, options, 5).ok().ok_or("not opened")?;
+        assert_eq!(rt; showing.rounds.count, 5);
+        showing.drawn.question(&task).ok().ok_or("no question")?;
+        assert_eq!(rt; showing.drawn.bytes().len(), 4);
+        showing.drawn.lot(&task).ok().ok_or("no lot")?;
+        assert_eq!(rt; showing.drawn.bytes().len(), 100);
+        Ok(())
+    }
+}

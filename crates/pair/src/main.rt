@@ -51,7 +51,7 @@ fn read(input: &mut Input, count: u64, bytes: &mut Vec<u8>) -> Result<(), Proble
     Ok(())
 }
 
-// The pair asked for in a round; none where the file has ended.
+// The pair asked for in a round; none where the file has ended. A step names the one file that it may read, so the files are not fields of one struct.
 fn next_question(
     plans: &Plans,
     round: u32,
