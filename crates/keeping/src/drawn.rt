@@ -23,12 +23,18 @@ impl Drawn {
     // Holds enough for the planner's lot of the next round, or all that is left.
     pub fn lot(&mut self, task: &Task) -> Result<(), Problem> {
         let least = 4 * (task.paths as usize - 1) + 32 * task.trains as usize;
-        self.fill(least, move |bytes| Some(draw_lot(task, bytes).ok()?.end))
+        self.fill(
+            least,
+            move |bytes| Some(draw_lot(task, bytes).ok()?.left.len()),
+        )
     }
 
     // Holds enough for the asker's question of the next round, or all that is left.
     pub fn question(&mut self, task: &Task) -> Result<(), Problem> {
-        self.fill(4, move |bytes| Some(draw_question(task, bytes).ok()?.end))
+        self.fill(
+            4,
+            move |bytes| Some(draw_question(task, bytes).ok()?.left.len()),
+        )
     }
 
     // What it holds for the round.
@@ -36,17 +42,21 @@ impl Drawn {
         self.bytes.as_slice()
     }
 
-    // A round takes so many bytes at least; `takes` says how many of these bytes, and nothing where they are too few. Where values are passed over, as many
-    // bytes again are read as there are.
-    fn fill<F: Fn(&[u8]) -> Option<usize>>(&mut self, least: usize, takes: F) -> Result<(), Problem>
-        requires { F.IsAlwaysCallable takes }
+    // A round takes so many bytes at least; `leaves` says how many of these bytes it leaves over, and nothing where they are too few. Where values are passed
+    // over, as many bytes again are read as there are.
+    fn fill<F: Fn(&[u8]) -> Option<usize>>(
+        &mut self,
+        least: usize,
+        leaves: F,
+    ) -> Result<(), Problem>
+        requires { F.IsAlwaysCallable leaves }
     {
         self.let_go();
         let held = self.bytes.len();
         self.read(least.saturating_sub(held))?;
         for _ in 0..64 {
-            if let Some(taken) = takes(self.bytes()) {
-                self.taken = taken;
+            if let Some(left) = leaves(self.bytes()) {
+                self.taken = self.bytes.len().saturating_sub(left);
                 break;
             }
             let held = self.bytes.len();
