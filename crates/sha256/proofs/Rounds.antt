@@ -44,9 +44,8 @@ more-words b w n m x em h e ex =
     let k = next-take w n in
     cc
 
-pub all_words : (b w : List ℕ) (n : ℕ) → n ≡ 48 → length w ≡ 64 → take (n + 16) w ≡ schedule b n → w ≡ schedule b 48
-all_words b w n e l h =
-    sym (take_all 64 w (omega arith)) ∙ subst (λ (k : ℕ). take (k + 16) w ≡ schedule b k) e h
+pub words-at : (w b : List ℕ) (n m : ℕ) → n ≡ m → take (n + 16) w ≡ schedule b n → take (m + 16) w ≡ schedule b m
+words-at w b n m e h = subst (λ (k : ℕ). take (k + 16) w ≡ schedule b k) e h
 
 pub no_steps : (s : State ℕ) (w : List ℕ) → s ≡ steps s w 0
 unfolding steps
@@ -77,6 +76,16 @@ length-schedule b (suc n) =
     let a = length_push (schedule b n) (next (schedule b n) n) in
     let e = length-schedule b n in
     omega (arith, a, e)
+
+-- all rounds, on all words
+pub all_steps : (s r : State ℕ) (b w : List ℕ) (t : ℕ)
+    → t ≡ 64 → take 64 w ≡ schedule b 48 → r ≡ steps s w t → sum s r ≡ compress s b
+unfolding compress
+all_steps s r b w t e h er =
+    let a = take-append-drop 64 w in
+    let l = length-schedule b 48 in
+    let f = steps_front s (schedule b 48) (drop 64 w) 64 (omega arith) in
+    cc
 
 -- the sixteen words of the block and as many rounds
 pub midway_first : (start s : State ℕ) (b w : List ℕ) → take 16 w ≡ schedule b 0 → s ≡ steps start w 16 → Midway start b s w 0

@@ -115,14 +115,56 @@ fn eight_next_steps<W: Words>(s: State<W>, w: &mut [W; 64], n: usize) -> State<W
     next_step(s7, w, n + 7)
 }
 
-// The hash values after a block of each message, whose sixteen words are the first of w. The others are filled.
-pub fn compress_words<W: Words>(s: State<W>, w: &mut [W; 64]) -> State<W>
+// The hash values after a block of each message, whose sixteen words are the first of w. The others are filled,
+// each beside a round: a word alone gains a tenth by it, and eight side by side lose as much.
+pub(crate) fn compress_beside<W: Words>(s: State<W>, w: &mut [W; 64]) -> State<W>
     ensures { (j : ℕ) → j < W.lanes → (b : List ℕ) → take 16 (column W.lane w.old j) ≡ scheduled b 0 → state_at W.lane result j ≡ compressed (state_at W.lane s j) b }
 {
     let first = eight_steps(s, w, 0);
     let mut r = eight_steps(first, w, 8);
     for i in 0..6 {
         r = eight_next_steps(r, w, 8 * i);
+    }
+    sum(s, r)
+}
+
+// The next word of the schedule, at its place.
+fn put_next<W: Words>(w: &mut [W; 64], n: usize)
+    requires { n < 48 }
+    ensures { (j : ℕ) (b : List ℕ) → j < W.lanes → take (n + 16) (column W.lane w.old j) ≡ scheduled b n → take (n + 1 + 16) (column W.lane w.new j) ≡ scheduled b (n + 1) }
+{
+    let x = next(w, n);
+    w[n + 16] = x;
+}
+
+// Four words more, so that each is still at hand for those after it.
+fn put_four<W: Words>(w: &mut [W; 64], n: usize)
+    requires { n + 4 ≤ 48 }
+    ensures { (j : ℕ) (b : List ℕ) → j < W.lanes → take (n + 16) (column W.lane w.old j) ≡ scheduled b n → take (n + 4 + 16) (column W.lane w.new j) ≡ scheduled b (n + 4) }
+{
+    put_next(w, n);
+    put_next(w, n + 1);
+    put_next(w, n + 2);
+    put_next(w, n + 3);
+}
+
+// The words after the first sixteen.
+fn put_all<W: Words>(w: &mut [W; 64])
+    ensures { (j : ℕ) (b : List ℕ) → j < W.lanes → take 16 (column W.lane w.old j) ≡ scheduled b 0 → take 64 (column W.lane w.new j) ≡ scheduled b 48 }
+{
+    for i in 0..12 {
+        put_four(w, 4 * i);
+    }
+}
+
+// The same as `compress_beside`, with all words before the rounds.
+pub fn compress_words<W: Words>(s: State<W>, w: &mut [W; 64]) -> State<W>
+    ensures { (j : ℕ) → j < W.lanes → (b : List ℕ) → take 16 (column W.lane w.old j) ≡ scheduled b 0 → state_at W.lane result j ≡ compressed (state_at W.lane s j) b }
+{
+    put_all(w);
+    let mut r = s;
+    for i in 0..8 {
+        r = eight_steps(r, w, 8 * i);
     }
     sum(s, r)
 }
