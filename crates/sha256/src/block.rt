@@ -2,7 +2,7 @@
 ghost use Rattle.std.specs.Prelude.{◌≡◌, ◌+◌, ◌≤◌, ◌++◌, length, take, drop};
 ghost use Rattle.sha256.specs.Sha256.{schedule as scheduled, compress as compressed};
 
-use crate::compress::compress_beside;
+use crate::compress::compress_words;
 use crate::state::State;
 
 // The block with the bytes of `part` after the first `held`.
@@ -32,5 +32,5 @@ fn words(block: &[u8; 64]) -> [u32; 64]
 pub(crate) fn compress(s: State<u32>, block: &[u8; 64]) -> State<u32>
     ensures { result ≡ compressed s block.now }
 {
-    compress_beside(s, &mut words(block))
+    compress_words(s, &mut words(block))
 }

@@ -8,4 +8,4 @@ pub returns : goal.returns
 unfolding state_at
 returns c =
     let w = c.words.result in
-    c.compress_beside.ensures 0 (omega arith) c.args.block.now (ap (take 16) (column-alone w) ∙ c.words.ensures)
+    c.compress_words.ensures 0 (omega arith) c.args.block.now (ap (take 16) (column-alone w) ∙ c.words.ensures)
