@@ -8,30 +8,31 @@ use crate::blocks::load;
 use sha256::{State, compress_words, initial, output};
 use std::simd::prelude::*;
 
-// Each vector is taken apart once: taken apart for each lane, the digests come one in twenty slower.
+// Lane j of a state.
+#[tactic(auto, unfolding(sha256::specs::Lane::state_at))]
+fn alone(s: State<u32x8>, j: usize) -> State<u32>
+    requires { j < 8 }
+    ensures { result ≡ state_at lane s j }
+{
+    State {
+        a: s.a.to_array()[j],
+        b: s.b.to_array()[j],
+        c: s.c.to_array()[j],
+        d: s.d.to_array()[j],
+        e: s.e.to_array()[j],
+        f: s.f.to_array()[j],
+        g: s.g.to_array()[j],
+        h: s.h.to_array()[j],
+    }
+}
+
+// By index: of `array::from_fn` the check knows the elements at numerals alone, and of `iter_mut` none.
 fn outputs(s: State<u32x8>) -> [[u8; 32]; 8]
     ensures { (j : ℕ) → j < 8 → slice_index_or result j [] ≡ outputOf (state_at lane s j) }
 {
-    let a = s.a.to_array();
-    let b = s.b.to_array();
-    let c = s.c.to_array();
-    let d = s.d.to_array();
-    let e = s.e.to_array();
-    let f = s.f.to_array();
-    let g = s.g.to_array();
-    let h = s.h.to_array();
     let mut all = [[0; 32]; 8];
     for j in 0..8 {
-        all[j] = output(State {
-            a: a[j],
-            b: b[j],
-            c: c[j],
-            d: d[j],
-            e: e[j],
-            f: f[j],
-            g: g[j],
-            h: h[j],
-        });
+        all[j] = output(alone(s, j));
     }
     all
 }

@@ -59,8 +59,8 @@ fn put_four<W: Words>(w: &mut [W; 64], n: usize)
 fn put_all<W: Words>(w: &mut [W; 64])
     ensures { (j : ℕ) (b : List ℕ) → j < W.lanes → take 16 (column W.lane w.old j) ≡ scheduled b 0 → take 64 (column W.lane w.new j) ≡ scheduled b 48 }
 {
-    for i in 0..12 {
-        put_four(w, 4 * i);
+    for n in (0..48).step_by(4) {
+        put_four(w, n);
     }
 }
 
@@ -124,8 +124,8 @@ pub fn compress_words<W: Words>(s: State<W>, w: &mut [W; 64]) -> State<W>
 {
     put_all(w);
     let mut r = s;
-    for i in 0..8 {
-        r = eight_steps(r, w, 8 * i);
+    for t in (0..64).step_by(8) {
+        r = eight_steps(r, w, t);
     }
     sum(s, r)
 }

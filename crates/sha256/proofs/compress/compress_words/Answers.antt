@@ -1,24 +1,26 @@
 -- No round before the loop, eight more, and all sixty-four after it.
-use Rattle.std.proofs.Common.{◌≡◌, ◌+◌, ◌*◌, ap, ◌∙◌, arith}
+use Rattle.std.proofs.Common.{refl, ◌∙◌, arith}
 use Rattle.sha256.specs.Lane.{column, state_at}
-use Rattle.sha256.specs.Sha256.{steps}
 use Rattle.sha256.proofs.Rounds.{no_steps, all_steps}
 use Rattle.sha256.proofs.compress.compress_words.Goals as goal
 
-pub loop-i-init : goal.loop-i-init
-loop-i-init g c = λ j l. no_steps (state_at g.W.Words.lane c.args.s j) (column g.W.Words.lane c.put_all.new.w j)
+pub loop-t-init : goal.loop-t-init
+loop-t-init g c =
+    (λ j l. no_steps (state_at g.W.Words.lane c.args.s j) (column g.W.Words.lane c.put_all.new.w j), refl, omega arith)
 
-pub loop-i-preserved : goal.loop-i-preserved
-loop-i-preserved g c = λ j l.
-    let lane = g.W.Words.lane in
-    let s = state_at lane c.args.s j in
-    let i = c.loop-i.i in
-    let e : 8 * i + 8 ≡ 8 * (i + 1) = omega arith in
-    c.eight_steps-r.ensures j l s (c.loop-i.invariant j l) ∙ ap (λ t. steps s (column lane c.put_all.new.w j) t) e
+pub eight_steps-r-requires : goal.eight_steps-r-requires
+eight_steps-r-requires g c = let m = g.met.W.Words.is_small in (omega arith, omega arith)
+
+pub loop-t-preserved : goal.loop-t-preserved
+loop-t-preserved g c = (
+  λ j l. c.eight_steps-r.ensures j l (state_at g.W.Words.lane c.args.s j) (c.loop-t.invariant.0 j l),
+  omega arith,
+  omega arith,
+)
 
 pub returns : goal.returns
 returns g c = λ j l b h.
     let lane = g.W.Words.lane in
     c.sum.ensures j l
-    ∙ all_steps (state_at lane c.args.s j) (state_at lane c.loop-i.r j) b (column lane c.put_all.new.w j) (8 * c.loop-i.i) (omega arith)
-    (c.put_all.ensures j b l h) (c.loop-i.invariant j l)
+    ∙ all_steps (state_at lane c.args.s j) (state_at lane c.loop-t.r j) b (column lane c.put_all.new.w j) c.loop-t.t (omega arith)
+    (c.put_all.ensures j b l h) (c.loop-t.invariant.0 j l)
