@@ -58,7 +58,8 @@ fn words(texts: &[[u8; 39]; 8], last: u32x8, t: usize) -> u32x8
     }
 }
 
-// Puts the sixteen words of each text's block before those that are computed of them.
+// Puts the sixteen words of each text's block before those that are computed of them. By index: what is written
+// through `iter_mut` is not known after the loop.
 pub(crate) fn load(texts: &[[u8; 39]; 8], w: &mut [u32x8; 64])
     ensures sized { Sized texts.now }
     ensures words { (j : ℕ) → j < 8 → take 16 (column lane w.new j) ≡ schedule (padded (slice_index_or texts.now j [])) 0 }

@@ -26,6 +26,7 @@ fn alone(s: State<u32x8>, j: usize) -> State<u32>
     }
 }
 
+// By index: of `array::from_fn` the check knows the elements at numerals alone, and of `iter_mut` none.
 fn outputs(s: State<u32x8>) -> [[u8; 32]; 8]
     ensures { (j : ℕ) → j < 8 → slice_index_or result j [] ≡ outputOf (state_at lane s j) }
 {

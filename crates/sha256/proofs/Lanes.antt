@@ -5,10 +5,9 @@ use Rattle.std.specs.List.{range_with_len}
 use Rattle.std.proofs.lemmas.List.{get_or-map, length-map, map-set}
 use Rattle.std.proofs.lemmas.Simd.{get_or-zip2, get_or-replicate}
 use Rattle.sha256.specs.declared.state.State.{State}
-use Rattle.sha256.specs.Sha256.{K, word, next, step, steps}
-use Rattle.sha256.specs.Midway.{Midway}
+use Rattle.sha256.specs.Sha256.{K, word, next, schedule, step, steps}
 use Rattle.sha256.specs.Lane.{column, state_at}
-use Rattle.sha256.proofs.Rounds.{one_more, more-first, midway_more}
+use Rattle.sha256.proofs.Rounds.{one_more, more-first, more-words}
 
 -- every lane of a vector with the same number, as in a shift
 pub by_splat : (g : ℕ → ℕ → ℕ) (x : List ℕ) (n j : ℕ) → length x ≡ 8 → j < 8 → get_or (zip2 g x (replicate 8 n)) j 0 ≡ g (get_or x j 0) n
@@ -57,11 +56,10 @@ module _ {W : Type 0} (lane : W → ℕ → ℕ) where
       let g = in_column w x j t h ex in
       one_more start (state_at lane s j) (state_at lane r j) (column lane w j) t k (lane (get_or w t x) j) u es er ek (cc) eu
 
-  -- a lane after one more word and its round
-  pub lane_midway : (start : State ℕ) (s r : State W) (b : List ℕ) (w : List W) (x : W) (j n m k : ℕ)
-      → Midway start b (state_at lane s j) (column lane w j) n → m ≡ n + 1 → n + 16 < length w → lane x j ≡ next (column lane w j) n
-      → k ≡ get_or K (n + 16) 0 → state_at lane r j ≡ step (state_at lane s j) k (lane x j)
-      → Midway start b (state_at lane r j) (column lane (set w (n + 16) x) j) m
-  lane_midway start s r b w x j n m k h em l ex ek er =
-      let e = length-column w j in
-      rw (column-set w x (n + 16) j) (midway_more start (state_at lane s j) (state_at lane r j) b (column lane w j) n m k (lane x j) h em (omega arith) ex ek er)
+  -- one more word of the schedule
+  pub column-words : (b : List ℕ) (w : List W) (x : W) (n m j : ℕ)
+      → m ≡ n + 16 + 1 → n + 16 < length w → take (n + 16) (column lane w j) ≡ schedule b n → lane x j ≡ next (column lane w j) n
+      → take m (column lane (set w (n + 16) x) j) ≡ schedule b (n + 1)
+  column-words b w x n m j em h e ex =
+      let l = length-column w j in
+      rw (column-set w x (n + 16) j) (more-words b (column lane w j) n m (lane x j) em (omega arith) e ex)

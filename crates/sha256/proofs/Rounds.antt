@@ -1,11 +1,10 @@
 -- One more word of the schedule and one more round, where they begin and where they end.
-use Rattle.std.proofs.Common.{◌≡◌, ℕ, zero, suc, ◌+◌, ◌<◌, ◌≤◌, List, [], ◌∷◌, ◌++◌, map, length, get_or, take, drop, set, sym, refl, ap, ◌∙◌, subst, add-one, arith}
+use Rattle.std.proofs.Common.{◌≡◌, ℕ, zero, suc, ◌+◌, ◌<◌, ◌≤◌, List, [], ◌∷◌, ◌++◌, map, length, get_or, take, drop, set, refl, subst, add-one, arith}
 use Rattle.std.specs.List.{range_with_len}
 use Rattle.std.proofs.lemmas.List.FromFn.{map-range_with_len_more}
-use Rattle.std.proofs.lemmas.List.{get_or_append_left, get_or_push, get_or-take, length_push, take_all, take-append-drop, take_more_set}
+use Rattle.std.proofs.lemmas.List.{get_or_append_left, get_or-take, length_push, take-append-drop, take_more_set}
 use Rattle.sha256.specs.declared.state.State.{State}
 use Rattle.sha256.specs.Sha256.{K, word, step, steps, next, schedule, sum, compress}
-use Rattle.sha256.specs.Midway.{Midway}
 
 -- one more word of a block, and all sixteen, with which the schedule begins
 pub more-first : (b w : List ℕ) (t x : ℕ)
@@ -44,9 +43,8 @@ more-words b w n m x em h e ex =
     let k = next-take w n in
     cc
 
-pub all_words : (b w : List ℕ) (n : ℕ) → n ≡ 48 → length w ≡ 64 → take (n + 16) w ≡ schedule b n → w ≡ schedule b 48
-all_words b w n e l h =
-    sym (take_all 64 w (omega arith)) ∙ subst (λ (k : ℕ). take (k + 16) w ≡ schedule b k) e h
+pub words-at : (w b : List ℕ) (n m : ℕ) → n ≡ m → take (n + 16) w ≡ schedule b n → take (m + 16) w ≡ schedule b m
+words-at w b n m e h = subst (λ (k : ℕ). take (k + 16) w ≡ schedule b k) e h
 
 pub no_steps : (s : State ℕ) (w : List ℕ) → s ≡ steps s w 0
 unfolding steps
@@ -78,37 +76,12 @@ length-schedule b (suc n) =
     let e = length-schedule b n in
     omega (arith, a, e)
 
--- the sixteen words of the block and as many rounds
-pub midway_first : (start s : State ℕ) (b w : List ℕ) → take 16 w ≡ schedule b 0 → s ≡ steps start w 16 → Midway start b s w 0
-midway_first start s b w e es =
-    let a = take-append-drop 16 w in
-    let l = length-schedule b 0 in
-    let f = steps_front start (schedule b 0) (drop 16 w) 16 (omega arith) in
-    record { words = e; state = cc }
-
--- one more word and one more round
-pub midway_more : (start s r : State ℕ) (b w : List ℕ) (n m k x : ℕ)
-    → Midway start b s w n → m ≡ n + 1 → n + 16 < length w → x ≡ next w n → k ≡ get_or K (n + 16) 0 → r ≡ step s k x
-    → Midway start b r (set w (n + 16) x) m
-midway_more start s r b w n m k x h em l ex ek er =
-    let y = next (schedule b n) n in
-    let e : x ≡ y = ex ∙ (sym (next-take w n) ∙ ap (λ (v : List ℕ). next v n) h.words) in
-    let d = schedule-more b n in
-    let g = get_or_push (schedule b n) y 0 (n + 16) (length-schedule b n) in
-    let f = steps_front start (schedule b n) (y ∷ []) (n + 16) (omega (arith, length-schedule b n)) in
-    let t = steps-more start (schedule b (n + 1)) (n + 16) in
-    let u : m + 16 ≡ n + 16 + 1 = omega arith in
-    record {
-      words = (let p = more-words b w n (m + 16) x u l h.words ex in cc);
-      state = (let q = h.state in cc);
-    }
-
-pub midway_at : {start s : State ℕ} {b w : List ℕ} (n m : ℕ) → n ≡ m → Midway start b s w n → Midway start b s w m
-midway_at {start} {s} {b} {w} n m e h = subst (λ (k : ℕ). Midway start b s w k) e h
-
-pub midway_all : (start s : State ℕ) (b w : List ℕ) (n : ℕ) → n ≡ 48 → Midway start b s w n → sum start s ≡ compress start b
+-- all rounds, on all words
+pub all_steps : (s r : State ℕ) (b w : List ℕ) (t : ℕ)
+    → t ≡ 64 → take 64 w ≡ schedule b 48 → r ≡ steps s w t → sum s r ≡ compress s b
 unfolding compress
-midway_all start s b w n e h =
-    let q = h.state in
-    let u : n + 16 ≡ 64 = omega arith in
+all_steps s r b w t e h er =
+    let a = take-append-drop 64 w in
+    let l = length-schedule b 48 in
+    let f = steps_front s (schedule b 48) (drop 64 w) 64 (omega arith) in
     cc

@@ -1,5 +1,4 @@
--- The definition of SHA-256, lanes of messages side by side, what a hasher holds, and where a block's rounds stand.
+-- The definition of SHA-256, lanes of messages side by side, and what a hasher holds.
 pub mod Lane
-pub mod Midway
 pub mod Sha256
 pub mod Stream

@@ -2,7 +2,6 @@
 ghost use Rattle.std.specs.Prelude.{◌≡◌, ℕ, ◌+◌, ◌*◌, ◌<◌, ◌≤◌, List, length, take};
 ghost use Rattle.sha256.specs.declared.state.State.{State};
 ghost use Rattle.sha256.specs.Lane.{column, state_at};
-ghost use Rattle.sha256.specs.Midway.{Midway};
 ghost use Rattle.sha256.specs.Sha256.{H0, next as next_of, schedule as scheduled, step as stepped, steps, sum as sum_of, compress as compressed};
 
 use crate::state::State;
@@ -34,6 +33,35 @@ fn next<W: Words>(w: &[W; 64], n: usize) -> W
         .plus(w[n + 9])
         .plus(small_sigma0(w[n + 1]))
         .plus(w[n])
+}
+
+// The next word of the schedule, at its place.
+fn put_next<W: Words>(w: &mut [W; 64], n: usize)
+    requires { n < 48 }
+    ensures { (j : ℕ) (b : List ℕ) → j < W.lanes → take (n + 16) (column W.lane w.old j) ≡ scheduled b n → take (n + 1 + 16) (column W.lane w.new j) ≡ scheduled b (n + 1) }
+{
+    let x = next(w, n);
+    w[n + 16] = x;
+}
+
+// Four words more, so that each is still at hand for those after it.
+fn put_four<W: Words>(w: &mut [W; 64], n: usize)
+    requires { n + 4 ≤ 48 }
+    ensures { (j : ℕ) (b : List ℕ) → j < W.lanes → take (n + 16) (column W.lane w.old j) ≡ scheduled b n → take (n + 4 + 16) (column W.lane w.new j) ≡ scheduled b (n + 4) }
+{
+    put_next(w, n);
+    put_next(w, n + 1);
+    put_next(w, n + 2);
+    put_next(w, n + 3);
+}
+
+// The words after the first sixteen.
+fn put_all<W: Words>(w: &mut [W; 64])
+    ensures { (j : ℕ) (b : List ℕ) → j < W.lanes → take 16 (column W.lane w.old j) ≡ scheduled b 0 → take 64 (column W.lane w.new j) ≡ scheduled b 48 }
+{
+    for n in (0..48).step_by(4) {
+        put_four(w, n);
+    }
 }
 
 #[tactic(auto, using(crate::proofs::Lanes::same_states), unfolding(crate::specs::Sha256::step, crate::specs::Sha256::T1, crate::specs::Sha256::T2, crate::specs::Lane::state_at))]
@@ -90,39 +118,14 @@ fn sum<W: Words>(s: State<W>, r: State<W>) -> State<W>
     }
 }
 
-// The next word of the schedule and the round with it.
-fn next_step<W: Words>(s: State<W>, w: &mut [W; 64], n: usize) -> State<W>
-    requires { n < 48 }
-    ensures { (j : ℕ) → j < W.lanes → (start : State ℕ) (b : List ℕ) → Midway start b (state_at W.lane s j) (column W.lane w.old j) n → Midway start b (state_at W.lane result j) (column W.lane w.new j) (n + 1) }
-{
-    let x = next(w, n);
-    w[n + 16] = x;
-    step(s, constant(n + 16), x)
-}
-
-// Eight more words, each with its round, so that the processor works on both at a time.
-fn eight_next_steps<W: Words>(s: State<W>, w: &mut [W; 64], n: usize) -> State<W>
-    requires { n + 8 ≤ 48 }
-    ensures { (j : ℕ) → j < W.lanes → (start : State ℕ) (b : List ℕ) → Midway start b (state_at W.lane s j) (column W.lane w.old j) n → Midway start b (state_at W.lane result j) (column W.lane w.new j) (n + 8) }
-{
-    let s1 = next_step(s, w, n);
-    let s2 = next_step(s1, w, n + 1);
-    let s3 = next_step(s2, w, n + 2);
-    let s4 = next_step(s3, w, n + 3);
-    let s5 = next_step(s4, w, n + 4);
-    let s6 = next_step(s5, w, n + 5);
-    let s7 = next_step(s6, w, n + 6);
-    next_step(s7, w, n + 7)
-}
-
 // The hash values after a block of each message, whose sixteen words are the first of w. The others are filled.
 pub fn compress_words<W: Words>(s: State<W>, w: &mut [W; 64]) -> State<W>
     ensures { (j : ℕ) → j < W.lanes → (b : List ℕ) → take 16 (column W.lane w.old j) ≡ scheduled b 0 → state_at W.lane result j ≡ compressed (state_at W.lane s j) b }
 {
-    let first = eight_steps(s, w, 0);
-    let mut r = eight_steps(first, w, 8);
-    for i in 0..6 {
-        r = eight_next_steps(r, w, 8 * i);
+    put_all(w);
+    let mut r = s;
+    for t in (0..64).step_by(8) {
+        r = eight_steps(r, w, t);
     }
     sum(s, r)
 }
