@@ -1,7 +1,7 @@
 -- Pairs that a plan keeps apart, one by one, and the answer of the loop that looks at them.
-use Rattle.std.proofs.Common.{◌≡◌, ℕ, zero, suc, ◌+◌, ◌<◌, ◌≤◌, true, false, not, ◌&&◌, List, [], ◌∷◌, ◌++◌, map, length, get_or, take, Some, None, sym, ap, ◌∙◌, arith}
+use Rattle.std.proofs.Common.{◌≡◌, ℕ, zero, suc, ◌+◌, ◌<◌, true, false, not, ◌&&◌, List, [], ◌∷◌, ◌++◌, map, length, get_or, take, Some, sym, ap, ◌∙◌, arith}
 use Rattle.std.proofs.lemmas.Bool.Decides.{nat_tests}
-use Rattle.std.proofs.lemmas.List.{get_or_default, take_all}
+use Rattle.std.proofs.lemmas.List.{get_or_default}
 use Rattle.std.proofs.lemmas.Bool.{eq-eqb}
 use Rattle.paths.specs.Plan.{Pair, Task, Plan, at, apart}
 use Rattle.paths.specs.Show.{pair_at}
@@ -24,9 +24,6 @@ apart-fails p [] i z h e = absurd (omega arith)
 apart-fails p (x ∷ xs) zero z h e = ap (λ b. not b && apart p xs) (eq-eqb _ _ e)
 apart-fails p (x ∷ xs) (suc i) z h e = let f = apart-fails p xs i z (omega arith) e in grind arith
 
-pub first-none : (t : Task) (p : Plan) → apart p t.pairs ≡ true → FirstUnfit t p None
-first-none t p h = record { none = ap (λ b. is_plan t p && b) h; some = h }
-
 pub first_some : (t : Task) (p : Plan) (u : Unfit) → Lowest t p u → FirstUnfit t p (Some u)
 first_some t p u l =
     let e : at p (pair_at t u.pair).a ≡ at p (pair_at t u.pair).e = ap (at p) (sym l.first) ∙ (l.fails ∙ ap (at p) l.second) in
@@ -36,9 +33,6 @@ first_some t p u l =
 module _ (t : Task) (p : Plan) (xs ys : List CodePair) (same : ys ≡ xs) (i : ℕ) (d : CodePair) where
   pub fit-more : i < length ys → apart p (take i (map pair_of xs)) ≡ true → (at p (get_or ys i d).first ≡ at p (get_or ys i d).second → ⊥) → apart p (take (i + 1) (map pair_of xs)) ≡ true
   fit-more h e f = ap (apart p) (one-passed xs ys same i d h) ∙ apart_push p (take i (map pair_of xs)) (here xs ys same i d h) e f
-
-  pub fit-end : length ys ≤ i → t.pairs ≡ map pair_of xs → apart p (take i (map pair_of xs)) ≡ true → FirstUnfit t p None
-  fit-end h k e = first-none t p (ap (apart p) (k ∙ sym (take_all i (map pair_of xs) (omega (arith, as_many xs ys same)))) ∙ e)
 
   pub fit_found : i < length ys → t.pairs ≡ map pair_of xs → apart p (take i (map pair_of xs)) ≡ true → at p (get_or ys i d).first ≡ at p (get_or ys i d).second → FirstUnfit t p (Some record { pair = i; first = (get_or ys i d).first; second = (get_or ys i d).second })
   fit_found h k e f =

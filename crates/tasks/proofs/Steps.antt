@@ -4,11 +4,10 @@ use Rattle.std.specs.Prelude.{IfOk}
 use Rattle.std.specs.declared.alloc.Global.{Global}
 use Rattle.std.specs.Simd.{first_chunks}
 use Rattle.std.proofs.lemmas.List.{get_or-take}
-use Rattle.paths.specs.Plan.{Pair, Task}
-use Rattle.tasks.specs.declared.fault.Fault.{Fault}
+use Rattle.paths.specs.Plan.{Pair}
 use Rattle.tasks.specs.declared.pair.Pair.{Pair as CodePair}
 use Rattle.tasks.specs.Pair.{pair_of}
-use Rattle.tasks.specs.Reading.{Got, Head, Looked, got, refused, ends, read_each, read_head, read_pairs, read_paths, read_plan_head, read_plan, pair_in, pairs_from, read_task, task_in, gives, looks, word_at}
+use Rattle.tasks.specs.Reading.{Got, got, refused, ends, read_each, pair_in, pairs_from, word_at}
 
 -- one more of m, where i are done
 left : (m i : ℕ) → i < m → m - i ≡ suc (m - (i + 1))
@@ -26,12 +25,6 @@ module _ {A : Type 0} (one : A → List ℕ → Got A) (w : ℕ) (last : A) (m i
   pub each-end : m ≤ i → read_each one w last (m - i) bs ≡ ends bs
   unfolding read_each
   each-end h = let z : m - i ≡ 0 = omega arith in rw z refl
-
-pub task_fault_lem : (bs : List ℕ) (h : Head) (f : ℕ) → got h ≡ read_head bs → refused f ≡ read_pairs h.trains h.pairs (drop 6 bs) → refused f ≡ read_task bs
-task_fault_lem bs h f e d = rw (← e, ← d) refl
-
-pub task-whole : (bs : List ℕ) (h : Head) (x : Looked) → got h ≡ read_head bs → got x ≡ read_pairs h.trains h.pairs (drop 6 bs) → got (task_in h (drop 6 bs)) ≡ read_task bs
-task-whole bs h x e d = rw (← e, ← d) refl
 
 -- a pair of the code, of four bytes
 abbrev pub code_pair : List ℕ → CodePair
@@ -54,7 +47,3 @@ pairs_in_fours (suc m) bs =
 pub pairs_collected : {E : Type 0} (m : ℕ) (bs : List ℕ) (r : Result (Vec CodePair Global) E) → IfOk r (λ v. vec_items v ≡ map code_pair (first_chunks 4 m bs)) → IfOk r (λ v. map pair_of (vec_items v) ≡ pairs_from m bs)
 pairs_collected m bs (Ok v) e = ap (map pair_of) e ∙ pairs_in_fours m bs
 pairs_collected m bs (Err f) e = tt
-
-pub plan-whole : (t : Task) (bs : List ℕ) (x : Looked) (r : Result Looked Fault) → got x ≡ read_plan_head t.trains bs → looks r ≡ read_paths t.paths t.trains (drop 3 bs) → gives (λ _. drop 3 bs) r ≡ read_plan t bs
-plan-whole t bs x (Ok y) e d = rw (← e, ← d) refl
-plan-whole t bs x (Err f) e d = rw (← e, ← d) refl

@@ -1,11 +1,11 @@
 -- The bytes of one pair more.
-use Rattle.std.proofs.Common.{◌≡◌, ℕ, ◌+◌, ◌<◌, ◌≤◌, List, ◌++◌, map, length, get_or, take, ap, arith}
+use Rattle.std.proofs.Common.{◌≡◌, ℕ, ◌+◌, ◌<◌, List, ◌++◌, map, length, get_or, take}
 use Rattle.std.specs.List.{flat_map}
-use Rattle.std.proofs.lemmas.List.{flat_map_more, take_all}
+use Rattle.std.proofs.lemmas.List.{flat_map_more}
 use Rattle.tasks.specs.declared.pair.Pair.{Pair as CodePair}
 use Rattle.tasks.specs.Pair.{pair_of}
 use Rattle.tasks.specs.Writing.{pair_bytes}
-use Rattle.tasks.proofs.Mapped.{as_many, one-passed}
+use Rattle.tasks.proofs.Mapped.{one-passed}
 
 module _ (hs : List ℕ) (xs ys : List CodePair) (same : ys ≡ xs) (i : ℕ) where
   pub write-more : (d : CodePair) → i < length ys → (was now bs : List ℕ) → was ≡ hs ++ flat_map pair_bytes (take i (map pair_of xs)) → now ≡ was ++ bs → bs ≡ pair_bytes (pair_of (get_or ys i d)) →
@@ -14,6 +14,3 @@ module _ (hs : List ℕ) (xs ys : List CodePair) (same : ys ≡ xs) (i : ℕ) wh
       let m = flat_map_more pair_bytes hs (take i (map pair_of xs)) (pair_of (get_or ys i d)) in
       let p = one-passed xs ys same i d h in
       cc
-
-  pub write-all : length ys ≤ i → hs ++ flat_map pair_bytes (take i (map pair_of xs)) ≡ hs ++ flat_map pair_bytes (map pair_of xs)
-  write-all h = ap (λ zs. hs ++ flat_map pair_bytes zs) (take_all i (map pair_of xs) (omega (arith, as_many xs ys same)))

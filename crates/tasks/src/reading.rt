@@ -180,6 +180,7 @@ pub fn check_plan(task: &Task, bytes: &[u8]) -> Result<(), Fault>
 }
 
 // A task of these bytes, or the first fault.
+#[tactic(auto, using(crate::proofs::TaskLaws::task_law, crate::proofs::Fronts::task_front))]
 pub fn read_task(heap: Global, bytes: &[u8]) -> Result<Task, Fault>
     ensures answer { Meets task_of result (read_task bytes.now) }
     ensures written { IfOk result (λ t. task_bytes (task_of t) ≡ bytes.now) }
@@ -196,6 +197,7 @@ pub fn read_task(heap: Global, bytes: &[u8]) -> Result<Task, Fault>
 }
 
 // A plan for the task, whether it fits or not, of these bytes, or the first fault.
+#[tactic(auto, using(crate::proofs::PlanLaws::plan_law, crate::proofs::Fronts::plan_front))]
 pub fn read_plan(heap: Global, task: &Task, bytes: &[u8]) -> Result<Plan, Fault>
     ensures answer { Meets plan_of result (read_plan (task_of task.now) bytes.now) }
     ensures written { IfOk result (λ p. plan_bytes (plan_of p) ≡ bytes.now) }

@@ -2,7 +2,7 @@ use Rattle.std.proofs.Common.{sym, refl}
 use Rattle.paths.specs.Plan.{apart}
 use Rattle.std.proofs.lemmas.Bool.{eqb-true, eqb-false}
 use Rattle.tasks.specs.Model.{task_of, plan_of}
-use Rattle.tasks.proofs.Fits.{fit-more, fit-end, fit_found}
+use Rattle.tasks.proofs.Fits.{fit-more, fit_found}
 use Rattle.tasks.proofs.fitting.first_unfit.Goals as goal
 
 pub pairs-init : goal.pairs-init
@@ -15,10 +15,6 @@ pairs-preserved c = (
   fit-more (task_of c.args.task.now) (plan_of c.args.plan.now) _ _ c.deref-pair-items.ensures.value _ _ c.pairs-test.true c.pairs.invariant.1
       (eqb-false _ _ (sym c.if-fails.ensures)),
 )
-
-pub returns-after-pairs : goal.returns-after-pairs
-returns-after-pairs c =
-    rw c.pairs.invariant.0 (fit-end (task_of c.args.task.now) (plan_of c.args.plan.now) _ _ c.deref-pair-items.ensures.value _ (record { first = 0; second = 0 }) c.pairs-test.false refl c.pairs.invariant.1)
 
 pub returns-then-fails : goal.returns-then-fails
 returns-then-fails c =

@@ -1,6 +1,5 @@
-use Rattle.std.proofs.Common.{sym, refl, ap, ◌∙◌, inl, inr, arith}
+use Rattle.std.proofs.Common.{sym, ap, ◌∙◌, inl, arith}
 use Rattle.std.proofs.lemmas.List.{take_rest}
-use Rattle.std.proofs.lemmas.Result.{err_from_is_err_and}
 use Rattle.tasks.specs.Model.{task_of}
 use Rattle.tasks.specs.Reading.{got}
 use Rattle.tasks.proofs.PlanLaws.{plan_law, plan-sound}
@@ -8,17 +7,8 @@ use Rattle.tasks.proofs.Fronts.{plan_front}
 use Rattle.tasks.proofs.Words.{bytes_below}
 use Rattle.tasks.proofs.reading.read_plan.Goals as goal
 
-pub returns-in_err-check_plan : goal.returns-in_err-check_plan
-returns-in_err-check_plan c =
-    let p = err_from_is_err_and c.from_residual.result c.from_residual.ensures.1 in
-    let law = plan_law (task_of c.args.task.now) (omega arith) in
-    rw (p.1, p.2) (record { answer = inl c.in_err-check_plan.ensures; written = tt; law = law; front = plan_front (task_of c.args.task.now) c.args.task.now.few_trains })
-
-pub returns-in_err-paths : goal.returns-in_err-paths
-returns-in_err-paths c =
-    let p = err_from_is_err_and c.from_residual-in_err-paths.result c.from_residual-in_err-paths.ensures.1 in
-    let law = plan_law (task_of c.args.task.now) (omega arith) in
-    rw (p.1, p.2) (record { answer = inr (refl, (_, sym c.in_ok-check_plan.ensures)); written = tt; law = law; front = plan_front (task_of c.args.task.now) c.args.task.now.few_trains })
+pub returns-in_err-paths-clause-front : goal.returns-in_err-paths-clause-front
+returns-in_err-paths-clause-front c = plan_front (task_of c.args.task.now) c.args.task.now.few_trains
 
 pub invariant_of-result : goal.invariant_of-result
 invariant_of-result c =

@@ -1,23 +1,12 @@
-use Rattle.std.proofs.Common.{vec_items, sym, refl, inl, inr, arith}
+use Rattle.std.proofs.Common.{vec_items, sym, inl, arith}
 use lib.ListN.{length-map}
 use Rattle.std.proofs.lemmas.List.{take_rest}
-use Rattle.std.proofs.lemmas.Result.{err_from_is_err_and}
 use Rattle.tasks.specs.Head.{head_of}
 use Rattle.tasks.specs.Pair.{pair_of}
 use Rattle.tasks.proofs.TaskLaws.{task_law, task-sound, task-kept, guarantees}
 use Rattle.tasks.proofs.Fronts.{task_front}
 use Rattle.tasks.proofs.Words.{bytes_below}
 use Rattle.tasks.proofs.reading.read_task.Goals as goal
-
-pub returns-in_err-head : goal.returns-in_err-head
-returns-in_err-head c =
-    let p = err_from_is_err_and c.from_residual.result c.from_residual.ensures.1 in
-    rw (p.1, p.2) (record { answer = inl c.in_err-head.ensures; written = tt; law = task_law; front = task_front })
-
-pub returns-in_err-pairs : goal.returns-in_err-pairs
-returns-in_err-pairs c =
-    let p = err_from_is_err_and c.from_residual-in_err-pairs.result c.from_residual-in_err-pairs.ensures.1 in
-    rw (p.1, p.2) (record { answer = inr (refl, (_, sym c.in_ok-head.ensures)); written = tt; law = task_law; front = task_front })
 
 pub invariant_of-result : goal.invariant_of-result
 invariant_of-result c =
