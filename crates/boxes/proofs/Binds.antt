@@ -1,9 +1,9 @@
 -- Two openings of one box that are not the same give two texts of one digest. Assumes nothing.
-use Rattle.std.proofs.Common.{◌≡◌, ℕ, ◌^◌, ◌<◌, true, false, not, ◌&&◌, eqb, ◌⊎◌, List, Some, None, sym, refl, ap, ◌∙◌, inl, inr}
+use Rattle.std.proofs.Common.{◌≡◌, ℕ, ◌^◌, ◌<◌, true, false, not, ◌&&◌, eqb, ◌⊎◌, List, sym, refl, ap, ◌∙◌, inl, inr}
 use Rattle.std.proofs.lemmas.Bool.{and_from, and_parts, both_ways, cases_Bool, eq-eqb, eqb-true, not_from_false, not-true}
 use Rattle.paths.specs.Count.{same_row}
 use Rattle.boxes.specs.Box.{Opening, text_of, opens_box}
-use Rattle.boxes.specs.Binding.{collides, same_opening, texts_of, opened_twice, collision_of, Binds}
+use Rattle.boxes.specs.Binding.{collides, same_opening, texts_of, opened_twice, Binds}
 use Rattle.boxes.proofs.Bytes.{bytes_same}
 use Rattle.paths.proofs.Same.{same_decides, same_itself}
 use Rattle.boxes.proofs.Texts.{text-parts}
@@ -48,12 +48,6 @@ module _ (x y : Opening) where
         | inl e ↦ absurd (both_ways (same_opening x y) (not-true _ b.0) (ap (same_opening x) (sym e) ∙ same_opening-itself x))
         | inr e ↦ e
       ]
-
-  pub collision_none : (H : List ℕ → List ℕ) (digest : List ℕ) (round : ℕ) → false ≡ opened_twice H digest round x y → None ≡ collision_of H digest round x y
-  collision_none H digest round e = rw (sym e)
-
-  pub collision_some : (H : List ℕ → List ℕ) (digest : List ℕ) (round : ℕ) → true ≡ opened_twice H digest round x y → Some (texts_of round x y) ≡ collision_of H digest round x y
-  collision_some H digest round e = rw (sym e)
 
 pub binds : (H : List ℕ → List ℕ) → Binds H
 binds H digest round x y hx hy ox oy = opened-same x y H digest round hx hy ox oy

@@ -2,7 +2,9 @@
 use Rattle.std.proofs.Common.{◌≡◌, ℕ, zero, suc, ◌+◌, ◌*◌, ◌<◌, ◌≤◌, List, [], ◌∷◌, ◌++◌, length, get_or, take, drop, sym, refl, ap, ◌∙◌, add-zero, arith}
 use Rattle.std.specs.List.{flat_map}
 use Rattle.std.proofs.lemmas.List.{append_assoc, drop_at, drop-drop, drop-take, length-append, length-take-le, take_at, take-take}
+use Rattle.sha256.specs.Sha256.{sha256}
 use Rattle.boxes.specs.Box.{box_of, boxes_of, Laid}
+use Rattle.boxes.proofs.Digests.{length-sha256}
 
 module _ (H : List ℕ → List ℕ) (round : ℕ) where
   -- the box of train first + j
@@ -75,3 +77,6 @@ laid H h =
       long = λ round first numbers chances. length-boxes H round h numbers chances first;
       each = λ round first numbers chances j l. box_here H round h numbers chances first j l;
     }
+
+pub laid_sha256 : Laid sha256
+laid_sha256 = laid sha256 length-sha256

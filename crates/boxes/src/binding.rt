@@ -21,6 +21,7 @@ fn opened_twice(digest: [u8; 32], round: u32, first: Opening, second: Opening) -
 }
 
 // The texts of two openings of one box: different, and of one digest. None where the openings are the same, or one of them doesn't open the box.
+#[tactic(auto, using(crate::proofs::Binds::binds))]
 pub fn collision(digest: [u8; 32], round: u32, first: Opening, second: Opening) -> Option<TwoTexts>
     ensures texts { option_map two_of result ≡ collision_of sha256 digest round (opening_of first) (opening_of second) }
     ensures collides { IfSome result (λ x. collides sha256 (two_of x) ≡ true) }

@@ -1,9 +1,9 @@
 -- How long each word is.
-use Rattle.std.proofs.Common.{◌≡◌, ℕ, ◌+◌, ◌*◌, Bool, true, ◌&&◌, eqb, ltb, List, length, refl, arith, length-append}
+use Rattle.std.proofs.Common.{◌≡◌, ℕ, ◌+◌, ◌*◌, true, ◌&&◌, eqb, ltb, List, length, arith, length-append}
 use Rattle.std.proofs.lemmas.Bool.{and_parts, eqb-true}
 use Rattle.paths.specs.Plan.{Task, Plan}
 use Rattle.boxes.specs.Box.{Opening}
-use Rattle.words.specs.Said.{plan, boxes, ask, opened, end}
+use Rattle.words.specs.Said.{plan, boxes, opened}
 use Rattle.words.specs.Writing.{said_bytes, is_said, is_round, is_opening}
 
 pub opened-size : (r : ℕ) (x y : Opening) → length x.chance ≡ 32 → length y.chance ≡ 32 → length (said_bytes (opened r x y)) ≡ 75
