@@ -10,7 +10,6 @@ ghost use Rattle.asking.specs.Model.{ready_of, drawn_of, asked_of};
 use super::asked::Asked;
 use super::drawn::Drawn;
 use super::ready::Ready;
-use super::turning::stops;
 use lots::draw_question;
 use round::Over;
 use tasks::{Fault, Task};
@@ -21,11 +20,7 @@ impl Ready {
     pub fn draw(self, bytes: &[u8]) -> Result<Drawn, Over>
         ensures { leads drawn_of result ≡ draw (ready_of self) bytes.now }
     {
-        let question = draw_question(&self.task, bytes).map_err(|fault| stops(
-            fault,
-            self.round,
-            self.digest,
-        ))?;
+        let question = draw_question(&self.task, bytes).map_err(|fault| self.stops(fault))?;
         Ok(Drawn {
             ready: self,
             pair: question.what,
@@ -51,11 +46,7 @@ impl Drawn {
         ensures { leads asked_of result ≡ question (drawn_of self) word.items }
     {
         let ready = &self.ready;
-        test_boxes(&ready.task, ready.round, &word).map_err(|fault| stops(
-            fault,
-            ready.round,
-            ready.digest,
-        ))?;
+        test_boxes(&ready.task, ready.round, &word).map_err(|fault| ready.stops(fault))?;
         let ask = ask_bytes(ready.round, self.pair);
         Ok(Asked {
             drawn: self,

@@ -13,8 +13,8 @@ ghost use Rattle.asking.specs.Model.{ready_of, asked_of, tested_of, counted};
 use super::asked::Asked;
 use super::ready::Ready;
 use super::tested::Tested;
-use super::turning::{stops, turn};
-use round::{Over, test_opened};
+use super::turning::turn;
+use round::{Outcome, Over, test_opened};
 use tasks::{Fault, Task};
 use words::{Word, behind_head, end_bytes, read_word};
 
@@ -69,8 +69,10 @@ impl Tested {
         let ready = asked.drawn.ready;
         let opened = self.opened.as_ref().map_or(&[][..], |bytes| &bytes[..]);
         let digest = book::next(ready.digest, &asked.boxes, &asked.ask, opened, &self.end);
-        self.test
-            .map_err(|fault| stops(fault, ready.round, digest))?;
+        self.test.map_err(|fault| Over {
+            outcome: Outcome::Fault(fault, ready.round),
+            digest,
+        })?;
         turn(ready.task, ready.rounds, ready.round + 1, digest)
     }
 }

@@ -28,12 +28,14 @@ pub(super) fn turn(task: Task, rounds: Rounds, round: u32, digest: [u8; 32]) -> 
     })
 }
 
-// A fault in this round.
-pub(super) fn stops(cause: Fault, round: u32, digest: [u8; 32]) -> Over
-    ensures { over_of result ≡ record { outcome = fault (number cause) round; digest = digest } }
-{
-    Over {
-        outcome: Outcome::Fault(cause, round),
-        digest,
+impl Ready {
+    // A fault in this round.
+    pub(super) fn stops(&self, cause: Fault) -> Over
+        ensures { over_of result ≡ record { outcome = fault (number cause) self.now.round; digest = self.now.digest } }
+    {
+        Over {
+            outcome: Outcome::Fault(cause, self.round),
+            digest: self.digest,
+        }
     }
 }

@@ -27,7 +27,7 @@ pub struct Round {
     pub content: bool,
 }
 
-// What a word leads to.
+// What a word leads to. A round that is closed is no failure, so this is no Result.
 #[derive(Drop)]
 pub enum Heard {
     Waits(Awaits),

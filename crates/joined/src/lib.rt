@@ -28,17 +28,10 @@ pub fn joined_holds()
     ensures { Joins }
 {}
 
-// How many rounds a task of three pairs has where nobody says otherwise.
-fn rounds_of_three() -> u32
-    ensures { result ≡ 120 }
-{
-    default_rounds(3)
-}
-
-// The worked cases. The answer is the number of rounds of the one with three pairs.
+// The worked cases. The answer is the number of rounds of the one with three pairs, where nobody says otherwise.
 pub fn cases_hold() -> u32
     ensures table { AllHold cases }
     ensures rounds { result ≡ 120 }
 {
-    rounds_of_three()
+    default_rounds(3)
 }

@@ -86,20 +86,6 @@ fn behind(round: &Round) -> Awaits
     }
 }
 
-fn tell(judge: &Judge, digest: [u8; 32]) -> Verdict
-    ensures { verdict_of result ≡ finish (judge_of judge.now) digest }
-{
-    match &judge.awaits {
-        Awaits::Boxes | Awaits::Nothing => {
-            if judge.digest != digest {
-                return Verdict::OtherWords;
-            }
-            Verdict::Judged(judge.round, judge.content, judge.redrawn)
-        }
-        _ => Verdict::BadWords(Fault::Shape, judge.round),
-    }
-}
-
 impl Judge {
     // What is found of the asker's content when this round is closed.
     fn content_with(&self, round: &Round) -> Content
@@ -154,15 +140,26 @@ impl Judge {
         ensures { goes result ≡ step sha256 (judge_of self) word.items drawn.now }
     {
         let awaits = mem::replace(&mut self.awaits, Awaits::Nothing);
-        let heard = hear(&self.task, self.round, awaits, word).map_err(|fault| Verdict::BadWords(
-            fault, self.round,
-        ))?;
-        match heard {
-            Heard::Waits(awaits) => {
+        match hear(&self.task, self.round, awaits, word) {
+            Ok(Heard::Waits(awaits)) => {
                 self.awaits = awaits;
                 Ok(self)
             }
-            Heard::Closes(closed) => Ok(self.close(drawn, &closed)),
+            Ok(Heard::Closes(closed)) => Ok(self.close(drawn, &closed)),
+            Err(fault) => Err(Verdict::BadWords(fault, self.round)),
+        }
+    }
+
+    // Told apart from `end`, whose laws would have to be shown at each of these answers.
+    fn tell(&self, digest: [u8; 32]) -> Verdict
+        ensures { verdict_of result ≡ finish (judge_of self.now) digest }
+    {
+        match self.awaits {
+            Awaits::Boxes | Awaits::Nothing if self.digest != digest => Verdict::OtherWords,
+            Awaits::Boxes | Awaits::Nothing => {
+                Verdict::Judged(self.round, self.content, self.redrawn)
+            }
+            _ => Verdict::BadWords(Fault::Shape, self.round),
         }
     }
 
@@ -178,6 +175,6 @@ impl Judge {
         ensures bind { WordsBind sha256 }
         ensures no_other { NoOtherWords sha256 }
     {
-        tell(&self, digest)
+        self.tell(digest)
     }
 }

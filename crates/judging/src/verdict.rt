@@ -11,7 +11,7 @@ pub enum Content {
 
 // Whether the plan and the drawn bytes give the words: they were not handed over; they do; they are used up in this round; or in this round it is another
 // for this train.
-#[derive(Clone, Copy)]
+#[derive(Clone, Copy, Debug, PartialEq, Eq)]
 pub enum Redrawn {
     NotHanded,
     Agrees,

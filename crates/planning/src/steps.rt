@@ -18,7 +18,7 @@ use super::hearing::{read_ask, read_end};
 use super::opened::Opened;
 use super::ready::Ready;
 use book::next;
-use lots::{Had, Lot, draw_lot};
+use lots::{Lot, draw_lot};
 use round::{Outcome, Over, opened_word, write_boxes};
 use tasks::Fault;
 
@@ -49,14 +49,12 @@ impl Ready {
         ensures state { leads closed_of result ≡ close sha256 (ready_of self) drawn.now }
         ensures used { IfOk result (λ c. drop c.used drawn.now ≡ left_over (task_of self.task) drawn.now) }
     {
-        let Had { what: lot, left } = draw_lot(&self.task, drawn).map_err(|fault| self.stops(
-            fault,
-        ))?;
-        self.put_lot(&lot);
+        let had = draw_lot(&self.task, drawn).map_err(|fault| self.stops(fault))?;
+        self.put_lot(&had.what);
         Ok(Closed {
             ready: self,
-            order: lot.order,
-            used: drawn.len() - left.len(),
+            order: had.what.order,
+            used: drawn.len() - had.left.len(),
         })
     }
 }

@@ -1,16 +1,10 @@
 // How many rounds are enough against a planner without a plan that fits.
-ghost use Rattle.std.specs.Prelude.{◌≡◌, ◌*◌, ◌≤◌, vec_len};
+ghost use Rattle.std.specs.Prelude.{◌≡◌, ◌*◌, ◌≤◌};
 ghost use Rattle.tasks.specs.Model.{task_of};
 ghost use Rattle.soundness.specs.Sound.{EnoughFor, pairs_of};
 
 use drawing::default_rounds;
 use tasks::Task;
-
-fn forty_for_each(task: &Task) -> u32
-    ensures { result ≡ 40 * vec_len task.now.pairs }
-{
-    default_rounds(task.pairs.len() as u16)
-}
 
 // How many rounds a showing of the task has where nobody says otherwise: 40 for each pair. If no plan fits then, whatever is said to it, the asker is content
 // after so many for at most one in 2^40 of all rows of drawn bytes that suffice, but for those along which two texts of one digest are at hand.
@@ -19,5 +13,5 @@ pub fn enough_rounds(task: &Task) -> u32
     ensures few { result ≤ 163840 }
     ensures enough { EnoughFor (task_of task.now) result }
 {
-    forty_for_each(task)
+    default_rounds(task.pairs.len() as u16)
 }

@@ -6,11 +6,7 @@ use Rattle.boxes.proofs.Digests.{length-sha256}
 use Rattle.secrecy.proofs.Drawn.{keeps_secret_drawn}
 use Rattle.secrecy.proofs.beginning.start.Goals as goal
 
-pub returns : goal.returns
-returns c =
+pub returns-clause-secrecy : goal.returns-clause-secrecy
+returns-clause-secrecy c =
     let t = c.args.task in
-    record {
-      answer = c.begin.ensures.answer;
-      conduct = c.begin.ensures.conduct;
-      secrecy = λ fp q fq f. keeps_secret_drawn sha256 length-sha256 (task_of t) (task_good t) (omega (arith, t.few_paths)) (plan_of c.args.plan) q fp fq f c.args.rounds.count;
-    }
+    λ fp q fq f. keeps_secret_drawn sha256 length-sha256 (task_of t) (task_good t) (omega (arith, t.few_paths)) (plan_of c.args.plan) q fp fq f c.args.rounds.count

@@ -14,7 +14,7 @@ returns c =
     let t = task_of task in
     let l = length-map (vec_items task.pairs) pair_of in
     let n = task.pairs.ok.0 in
-    let forty : c.forty_for_each.result ≡ 40 * pairs_of t = omega arith in
+    let forty : c.default_rounds.result ≡ 40 * pairs_of t = omega arith in
     record {
       is = forty;
       few = omega (arith, task.few_pairs);
