@@ -2,7 +2,7 @@
 use Rattle.std.proofs.Common.{◌≡◌, ℕ, ◌<◌, Bool, true, false, cond, ◌&&◌, T, ltb, List, [], ◌∷◌, length, Some, None, vec_items, sym, refl, ap, ◌∙◌, arith}
 use lib.Ieee.Fits.{and_i}
 use lib.ListN.{length-map}
-use Rattle.std.proofs.lemmas.Bool.{and_parts, and_from, lt-ltb, ltb-true, ne_eqb, eq-eqb}
+use Rattle.std.proofs.lemmas.Bool.{and_parts, and_from, lt-ltb, ltb-true, ne_eqb}
 use Rattle.std.specs.Bool.{then_some}
 use Rattle.paths.specs.Plan.{Pair, Task, Plan, Good, pairs_in, fits}
 use Rattle.paths.specs.Show.{pair_at}
@@ -17,7 +17,7 @@ use Rattle.tasks.specs.Pair.{pair_of}
 use Rattle.tasks.specs.Task.{is_there, rises, rising}
 use Rattle.pairing.specs.declared.plans.Plans.{Plans}
 use Rattle.tasks.specs.Reading.{got, refused}
-use Rattle.pairing.specs.Coins.{Promised, paired_order, order_for}
+use Rattle.pairing.specs.Coins.{Promised, paired_order}
 use Rattle.pairing.specs.Plans.{both_of}
 use Rattle.fitting.specs.Pairs.{asked_pair}
 use Rattle.pairing.specs.Pairs.{paths_of, partners_for}
@@ -71,12 +71,6 @@ module _ (s : Plans) (i : ℕ) (x : Pair) (asked : got x ≡ asked_pair (task_of
       let a = asked_is (task_of s.task) i x asked in
       ap (λ (y : Partners). paired y xs) (are ∙ ap (partners_for (plan_of s.first) (plan_of s.second)) (sym a.1))
       ∙ order-paired (task_of s.task) (task_good s.task) _ _ s.first_fits s.second_fits i (ltb-true _ _ a.0) xs long
-
-  answer_is : got its ≡ order_for (both_of s) i xs
-  answer_is = rw (← asked, eq-eqb _ _ long) refl
-
-  pub order-answer : (ys : List ℕ) → Some ys ≡ paired ps xs → got ys ≡ order_for (both_of s) i xs
-  order-answer ys e = let h = has_pair in let g : ys ≡ its = cc in ap got g ∙ answer_is
 
   pub order-never : {P : Type 0} → None ≡ paired ps xs → P
   order-never e = let h = has_pair in let z : ◌≡◌ {A = ℕ} 0 1 = cc in absurd (omega arith)

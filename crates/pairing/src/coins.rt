@@ -12,6 +12,7 @@ use tasks::Fault;
 
 impl Plans {
     // The order of the second plan's coin that goes with a coin of the first plan, where the pair with this number is asked for.
+    #[tactic(auto, using(crate::proofs::Promises::promised))]
     pub fn pair_order(&self, question: u16, order: &Order) -> Result<Order, Fault>
         ensures answer { gives order_of result ≡ order_for (both_of self.now) question (order_of order.now) }
         ensures promise { Promised (both_of self.now) }
