@@ -1,17 +1,11 @@
 -- Bytes taken before a stop are wanted, and of a good word no more than the word is wanted.
-use Rattle.std.proofs.Common.{◌≡◌, ℕ, ◌+◌, ◌≤◌, List, ◌++◌, length, take, sym, refl, ap, ◌∙◌, inl, inr, arith, length-append, length-take}
+use Rattle.std.proofs.Common.{◌≡◌, ℕ, ◌≤◌, List, length, take, sym, ap, ◌∙◌, inl, inr, arith, length-take}
 use Rattle.std.proofs.lemmas.Bool.{cases_lt}
-use Rattle.std.proofs.lemmas.List.{take_all, take_at, take-take, take-append-le}
+use Rattle.std.proofs.lemmas.List.{take_all, take-take, take-append-le}
 use Rattle.paths.specs.Plan.{Task}
 use Rattle.words.specs.Writing.{said_bytes}
 use Rattle.words.specs.Stops.{Stops, next_stop}
 use Rattle.line.specs.Wanted.{Wanted, OneWord, Grown}
-
-pub grown_none : (stop : ℕ) (was after : List ℕ) → length was ≤ stop → after ≡ was → Grown stop was after
-grown_none stop was after h e = record { kept = ap (take (length was)) e ∙ take_all (length was) was (omega arith); short = omega (arith, ap length e) }
-
-pub grown_more : (stop : ℕ) (was more after : List ℕ) → after ≡ was ++ more → length was + length more ≤ stop → Grown stop was after
-grown_more stop was more after e h = record { kept = ap (take (length was)) e ∙ take_at was more (length was) refl; short = omega (arith, ap length e, length-append was more) }
 
 pub wanted_more : (t : Task) (was after : List ℕ) → Wanted t was → Grown (next_stop t was) was after → Wanted t after
 wanted_more t was after w g j h =
