@@ -1,22 +1,18 @@
 -- What the answers of the steps' functions are. Assumes nothing.
-use Rattle.std.proofs.Common.{◌≡◌, ℕ, Bool, true, false, cond, List, [], ◌∷◌, length, drop, vec_items, sym, refl, ap, ◌∙◌, inl, inr, arith}
+use Rattle.std.proofs.Common.{◌≡◌, ℕ, Bool, true, false, cond, List, [], ◌∷◌, length, vec_items, sym, refl, ap, ◌∙◌, inl, inr, arith}
 use lib.ListN.{length-map}
 use Rattle.std.proofs.lemmas.Bool.{cases_eq, false≢true}
-use Rattle.sha256.specs.Sha256.{sha256}
 use Rattle.paths.specs.Plan.{Task}
 use Rattle.tasks.specs.declared.task.Task.{Task as CodeTask}
 use Rattle.tasks.specs.Model.{task_of}
 use Rattle.tasks.specs.Pair.{pair_of}
 use Rattle.tasks.specs.Task.{sound}
-use Rattle.tasks.specs.Reading.{Got, Looked, got, refused, and_then, read_task, read_plan}
+use Rattle.tasks.specs.Reading.{Got, got, refused, and_then, read_task, read_plan}
 use Rattle.tasks.proofs.TaskLaws.{sound_from}
-use Rattle.words.specs.Said.{Said, task, plan, ask, end}
+use Rattle.words.specs.Said.{Said, task, plan}
 use Rattle.words.specs.Reading.{read_word}
-use Rattle.words.specs.Writing.{said_bytes, is_got}
 use Rattle.words.proofs.Laws.{by_kind, unknown_kind, exact_cut}
-use Rattle.round.specs.Round.{test_opened}
-use Rattle.round.specs.Over.{fault, on, out}
-use Rattle.asking.specs.Asking.{Drawn, Asked, on_boxes, question, is_opened_of, test}
+use Rattle.asking.specs.Asking.{is_opened_of}
 
 -- a task of the code guarantees what a task that was read does
 pub sound_of : (t : CodeTask) → sound (task_of t) ≡ true
@@ -57,21 +53,3 @@ module _ (t : Task) (n : ℕ) where
       (other (3 ∷ bs) (search not_this)) (other (4 ∷ bs) (search not_this))
       (λ h. elim (cases_eq (length (5 ∷ bs)) 75) [ inl e ↦ e | inr ne ↦ other (5 ∷ bs) (ap (is_opened_of n) (exact_cut 75 true _ (5 ∷ bs) ne)) h ]) (other (6 ∷ bs) (search not_this))
       (λ k u. other (k ∷ bs) (ap (is_opened_of n) (unknown_kind t k bs u))) k
-
--- The Boxes, and another word in their place
-module _ (s : Drawn) (bs : List ℕ) where
-  abbrev met : Got Looked
-  met = and_then (read_word s.ready.task bs) (on_boxes s.ready.round)
-
-  pub question-asked : (word : List ℕ) → word ≡ said_bytes (ask s.ready.round s.pair) → got tt ≡ met → on record { drawn = s; boxes = bs; ask = word } ≡ question s bs
-  question-asked word e h = rw (e, ← h) refl
-
-  pub question-refused : (f : ℕ) → refused f ≡ met → out record { outcome = fault f s.ready.round; digest = s.ready.digest } ≡ question s bs
-  question-refused f h = rw (← h) refl
-
--- The answer, tested
-pub tested_is : (s : Asked) (bs : List ℕ) (g : Got Looked) (kept last : List ℕ) →
-    g ≡ and_then (read_word s.drawn.ready.task bs) (test_opened sha256 s.drawn.ready.task s.drawn.ready.round s.drawn.pair (drop 7 s.boxes)) →
-    kept ≡ cond (is_opened_of s.drawn.ready.round (read_word s.drawn.ready.task bs)) bs [] → last ≡ said_bytes (end s.drawn.ready.round (is_got g)) →
-    record { asked = s; opened = kept; end = last; test = g } ≡ test sha256 s bs
-tested_is s bs g kept last e k l = rw (l, k, e) refl

@@ -24,16 +24,12 @@ use Rattle.round.proofs.Rounds.{rising_in}
 use Rattle.asking.specs.Asking.{on_task, on_boxes}
 use Rattle.asking.specs.Conduct.{NotAwaited, no_word, other_word, NoBoxes, NoTask, no_task_word, other_task, Contents, Exact, NotContent, unread, bad}
 
--- two different constructors
-pub never : {P : Type 0} → ◌≡◌ {A = ℕ} 0 1 → P
-never e = absurd (omega (arith, e))
-
 -- too few bytes are fault 11
 pub too_few : (t : Task) (bs : List ℕ) (f : ℕ) → question_in t bs ≡ refused f → f ≡ 11
 too_few t bs f e = go (drawn (length t.pairs ∷ []) bs) e
   where
     go : (d : Drawn) → had_by (λ ds. at ds 0) d ≡ refused f → f ≡ 11
-    go (drew ds left) e = never (cc)
+    go (drew ds left) e = cc
     go short e = cc
 
 -- the number that is drawn is a pair's
@@ -55,7 +51,7 @@ pair_there t good bs h = go (draw (2 ^ 32) (length t.pairs ∷ []) (values_of 25
   where
     go : (d : Drawn) → Below (length t.pairs) d → had_by (λ ds. at ds 0) (on_bytes bs d) ≡ got h → h.what < length t.pairs
     go (drew ds left) b e = let k : at ds 0 ≡ h.what = cc in omega (arith, b, k)
-    go short b e = never (cc)
+    go short b e = cc
 
 -- a word that isn't awaited is fault 6
 elsewhere : (t : Task) (w : List ℕ) (Awaited : Said → Type 0) (x : Said) (f : ℕ) → read_word t w ≡ got x → (Awaited x → ⊥) → ◌≡◌ {A = Got Looked} (refused 6) (refused f) →
@@ -69,7 +65,7 @@ module _ (t : Task) (few : t.trains < 65536) (w : List ℕ) (below : all_below 2
 
   -- The Task: what is read as a task has the same bytes
   compared : (f : ℕ) (bs : List ℕ) → read_word t w ≡ got (task bs) → (b : Bool) → same_row bs (task_bytes t) ≡ b → ◌≡◌ {A = Got Looked} (cond b (got tt) (refused 4)) (refused f) → NoTask t w f
-  compared f bs e true s h = never (cc)
+  compared f bs e true s h = cc
   compared f bs e false s h =
       let k : 4 ≡ f = cc in
       let same : w ≡ bs = (as_said (task bs) e).1 in
@@ -81,28 +77,28 @@ module _ (t : Task) (few : t.trains < 65536) (w : List ℕ) (below : all_below 2
       go : (g : Got Said) → read_word t w ≡ g → and_then g (on_task (task_bytes t)) ≡ refused f → NoTask t w f
       go (refused x) e h = no_task_word f (no_word f (e ∙ cc h))
       go (got (task bs)) e h = compared f bs e (same_row bs (task_bytes t)) refl h
-      go (got (plan p)) e h = no_task_word f (elsewhere t w _ (plan p) f e (λ q. never (cc q.1)) h)
-      go (got (boxes r ds)) e h = no_task_word f (elsewhere t w _ (boxes r ds) f e (λ q. never (cc q.1)) h)
-      go (got (ask r i)) e h = no_task_word f (elsewhere t w _ (ask r i) f e (λ q. never (cc q.1)) h)
-      go (got (opened r x y)) e h = no_task_word f (elsewhere t w _ (opened r x y) f e (λ q. never (cc q.1)) h)
-      go (got (end r c)) e h = no_task_word f (elsewhere t w _ (end r c) f e (λ q. never (cc q.1)) h)
+      go (got (plan p)) e h = no_task_word f (elsewhere t w _ (plan p) f e (λ q. cc q.1) h)
+      go (got (boxes r ds)) e h = no_task_word f (elsewhere t w _ (boxes r ds) f e (λ q. cc q.1) h)
+      go (got (ask r i)) e h = no_task_word f (elsewhere t w _ (ask r i) f e (λ q. cc q.1) h)
+      go (got (opened r x y)) e h = no_task_word f (elsewhere t w _ (opened r x y) f e (λ q. cc q.1) h)
+      go (got (end r c)) e h = no_task_word f (elsewhere t w _ (end r c) f e (λ q. cc q.1) h)
 
   pub task-met : and_then (read_word t w) (on_task (task_bytes t)) ≡ got tt → w ≡ task_bytes t
   task-met = go (read_word t w) refl
     where
       go : (g : Got Said) → read_word t w ≡ g → and_then g (on_task (task_bytes t)) ≡ got tt → w ≡ task_bytes t
-      go (refused x) e h = never (cc)
+      go (refused x) e h = cc
       go (got (task bs)) e h = (as_said (task bs) e).1 ∙ (same_decides bs (task_bytes t)).0 (cond-got (same_row bs (task_bytes t)) 4 (got tt) tt h).0
-      go (got (plan p)) e h = never (cc)
-      go (got (boxes r ds)) e h = never (cc)
-      go (got (ask r i)) e h = never (cc)
-      go (got (opened r x y)) e h = never (cc)
-      go (got (end r c)) e h = never (cc)
+      go (got (plan p)) e h = cc
+      go (got (boxes r ds)) e h = cc
+      go (got (ask r i)) e h = cc
+      go (got (opened r x y)) e h = cc
+      go (got (end r c)) e h = cc
 
   -- The Boxes of round n
   module _ (n : ℕ) where
     in_round : (f r : ℕ) (ds : List ℕ) → read_word t w ≡ got (boxes r ds) → (b : Bool) → eqb r n ≡ b → ◌≡◌ {A = Got Looked} (cond b (got tt) (refused 6)) (refused f) → NoBoxes t n w f
-    in_round f r ds e true s h = never (cc)
+    in_round f r ds e true s h = cc
     in_round f r ds e false s h = elsewhere t w _ (boxes r ds) f e (λ q. let k : r ≡ n = cc q.1 in eqb-false r n s k) h
 
     pub boxes-refused : (f : ℕ) → and_then (read_word t w) (on_boxes n) ≡ refused f → NoBoxes t n w f
@@ -110,12 +106,12 @@ module _ (t : Task) (few : t.trains < 65536) (w : List ℕ) (below : all_below 2
       where
         go : (g : Got Said) → read_word t w ≡ g → and_then g (on_boxes n) ≡ refused f → NoBoxes t n w f
         go (refused x) e h = no_word f (e ∙ cc h)
-        go (got (task bs)) e h = elsewhere t w _ (task bs) f e (λ q. never (cc q.1)) h
-        go (got (plan p)) e h = elsewhere t w _ (plan p) f e (λ q. never (cc q.1)) h
+        go (got (task bs)) e h = elsewhere t w _ (task bs) f e (λ q. cc q.1) h
+        go (got (plan p)) e h = elsewhere t w _ (plan p) f e (λ q. cc q.1) h
         go (got (boxes r ds)) e h = in_round f r ds e (eqb r n) refl h
-        go (got (ask r i)) e h = elsewhere t w _ (ask r i) f e (λ q. never (cc q.1)) h
-        go (got (opened r x y)) e h = elsewhere t w _ (opened r x y) f e (λ q. never (cc q.1)) h
-        go (got (end r c)) e h = elsewhere t w _ (end r c) f e (λ q. never (cc q.1)) h
+        go (got (ask r i)) e h = elsewhere t w _ (ask r i) f e (λ q. cc q.1) h
+        go (got (opened r x y)) e h = elsewhere t w _ (opened r x y) f e (λ q. cc q.1) h
+        go (got (end r c)) e h = elsewhere t w _ (end r c) f e (λ q. cc q.1) h
 
     -- the Boxes, by their digests
     boxes-round : (r : ℕ) (ds : List ℕ) → read_word t w ≡ got (boxes r ds) → on_boxes n (boxes r ds) ≡ got tt → (ds : List ℕ) × (w ≡ said_bytes (boxes n ds)) × (length ds ≡ 32 * t.trains)
@@ -128,13 +124,13 @@ module _ (t : Task) (few : t.trains < 65536) (w : List ℕ) (below : all_below 2
     boxes-met = go (read_word t w) refl
       where
         go : (g : Got Said) → read_word t w ≡ g → and_then g (on_boxes n) ≡ got tt → (ds : List ℕ) × (w ≡ said_bytes (boxes n ds)) × (length ds ≡ 32 * t.trains)
-        go (refused x) e h = never (cc)
-        go (got (task bs)) e h = never (cc)
-        go (got (plan p)) e h = never (cc)
+        go (refused x) e h = cc
+        go (got (task bs)) e h = cc
+        go (got (plan p)) e h = cc
         go (got (boxes r ds)) e h = boxes-round r ds e h
-        go (got (ask r i)) e h = never (cc)
-        go (got (opened r x y)) e h = never (cc)
-        go (got (end r c)) e h = never (cc)
+        go (got (ask r i)) e h = cc
+        go (got (opened r x y)) e h = cc
+        go (got (end r c)) e h = cc
 
 -- the asker's own task is not refused
 pub own_met : (t : Task) → sound t ≡ true → (f : ℕ) → NoTask t (task_bytes t) f → ⊥
@@ -144,7 +140,7 @@ own_met t good f = go
     read = (word_law t (omega (arith, (guarantees t good).few_trains))).reads (task (task_bytes t)) (ap is_got (task_law.reads t good))
 
     go : {f : ℕ} → NoTask t (task_bytes t) f → ⊥
-    go (no_task_word g (no_word f e)) = never (cc (e, read))
+    go (no_task_word g (no_word f e)) = cc (e, read)
     go (no_task_word g (other_word x e n)) = n (task_bytes t, cc (e, read))
     go (other_task e n) = n refl
 
@@ -203,19 +199,19 @@ module _ (H : List ℕ → List ℕ) (t : Task) (good : sound t ≡ true) where
 
     -- a word that passes the test
     passed : (v : Said) → test_opened H t n i ds v ≡ got tt → (x y : Opening) × (v ≡ opened n x y) × Contents H t n i ds x y
-    passed (task bs) h = never (cc)
-    passed (plan p) h = never (cc)
-    passed (boxes r bs) h = never (cc)
-    passed (ask r j) h = never (cc)
+    passed (task bs) h = cc
+    passed (plan p) h = cc
+    passed (boxes r bs) h = cc
+    passed (ask r j) h = cc
     passed (opened r x y) h = let c = accepted r x y h in (x, y, ap (λ m. opened m x y) c.0, c.1)
-    passed (end r c) h = never (cc)
+    passed (end r c) h = cc
 
     pub refuses : (w : List ℕ) (f : ℕ) → and_then (read_word t w) (test_opened H t n i ds) ≡ refused f → NotContent H t n i ds w f
     refuses w f = go (read_word t w) refl
       where
         go : (g : Got Said) → read_word t w ≡ g → and_then g (test_opened H t n i ds) ≡ refused f → NotContent H t n i ds w f
         go (refused x) e h = unread f (e ∙ cc h)
-        go (got v) e h = bad v f e (λ x y q c. let a = accepts x y c in never (cc (ap (test_opened H t n i ds) q, h))) h
+        go (got v) e h = bad v f e (λ x y q c. let a = accepts x y c in cc (ap (test_opened H t n i ds) q, h)) h
 
     pub contents : (w : List ℕ) → and_then (read_word t w) (test_opened H t n i ds) ≡ got tt → (x y : Opening) × (read_word t w ≡ got (opened n x y)) × Contents H t n i ds x y
     contents w h =

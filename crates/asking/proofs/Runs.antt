@@ -21,7 +21,7 @@ use Rattle.asking.specs.Asking.{Ready, led, turn, begun, on_task, on_boxes, is_o
 use Rattle.round.specs.Line.{Event, sent, heard, Other, SaysBytes, Ran}
 use Rattle.asking.specs.Run.{Gone, going_on, asked, boxed, left_in, run}
 use Rattle.asking.specs.Conduct.{NoTask, Contents, Whole, no_task, own_task, ends1, Conducted, Conduct, kept, text, ends_by, From, all_rounds, drawn_out, no_boxes, end0, end1}
-use Rattle.asking.proofs.Refusals.{never, too_few, pair_there, task-refused, task-met, own_met, as_said, boxes-refused, boxes-met, refuses, contents}
+use Rattle.asking.proofs.Refusals.{too_few, pair_there, task-refused, task-met, own_met, as_said, boxes-refused, boxes-met, refuses, contents}
 
 ends1-back : (events line : List Event) → ends1 (reverse_aux events line) ≡ ends1 events + ends1 line
 unfolding ends1
@@ -136,7 +136,7 @@ module _ (H : List ℕ → List ℕ) (t : Task) (good : sound t ≡ true) (r : �
     pub then_content : n + ends1 events ≡ r → o.outcome ≡ content r
 
   early : (n : ℕ) (events : List Event) (o : Over) (f m : ℕ) → n < r → ends1 events ≡ 0 → o.outcome ≡ fault f m → Counted n events o
-  early n events o f m k e h = record { content_then = λ q. never (cc); then_content = λ q. absurd (omega arith) }
+  early n events o f m k e h = record { content_then = λ q. cc; then_content = λ q. absurd (omega arith) }
 
   counted : {n : ℕ} {drawn : List ℕ} {ws : List (List ℕ)} {events : List Event} {o : Over} → From H t r n drawn ws events o → Counted n events o
   unfolding ends1
@@ -173,7 +173,7 @@ module _ (H : List ℕ → List ℕ) (t : Task) (good : sound t ≡ true) (r : �
       subst (Conducted H t r drawn word) (sym (run_out r drawn (ends_by H t (task_fault f) []) (heard word ∷ [])))
       (record {
         line = no_task word f no;
-        content_then = λ q. never (cc);
+        content_then = λ q. cc;
         then_content = λ p q. absurd (own_met t good f (subst (λ z. NoTask t z f) p no));
       })
 

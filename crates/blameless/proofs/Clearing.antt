@@ -37,7 +37,7 @@ module _ (H : List ℕ → List ℕ) where
     judged_so e = by_cut (cut t ws) refl
       where
         by_book : (rs : List Round) → cut t ws ≡ cut_into rs → judge H t q given digest (cut_into rs) ≡ judged n c d → (b : Bool) → same_row (book_of H t rs) digest ≡ b → Judged
-        by_book rs f k false s = let z : ◌≡◌ {A = ℕ} 0 1 = cc (rw s at k) in absurd (omega arith)
+        by_book rs f k false s = cc (rw s at k)
         by_book rs f k true s =
             let told = rw s at k in
             let l : length rs ≡ n = cc in
@@ -45,7 +45,7 @@ module _ (H : List ℕ → List ℕ) where
             record { rounds = rs; cuts = f; fits-book = (same_decides _ _).0 s; without = λ any. rw (f, s, l, m, none-handed t 0 any rs) refl }
 
         by_cut : (k : Cut) → cut t ws ≡ k → Judged
-        by_cut (fault_in f m) k = let z : ◌≡◌ {A = ℕ} 0 1 = cc (rw k at e) in absurd (omega arith)
+        by_cut (fault_in f m) k = cc (rw k at e)
         by_cut (cut_into rs) k = by_book rs k (rw k at e) _ refl
 
 module _ (H : List ℕ → List ℕ) (sized : Sized H) (t : Task) (s : sound t ≡ true) (p : Plan) (fp : fits t p ≡ true) (r : ℕ) (few : r ≤ 2 ^ 24) (drawn : List ℕ)

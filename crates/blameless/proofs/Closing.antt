@@ -14,7 +14,6 @@ use Rattle.words.specs.Writing.{said_bytes, WordLaw}
 use Rattle.round.specs.Over.{Over}
 use Rattle.round.specs.Line.{Event, heard}
 use Rattle.planning.specs.Conduct.{AnEnd, Refused, no_word, not_awaited, text, From, all_rounds, drawn_out, no_ask, no_pair, no_end, end0, end1}
-use Rattle.planning.proofs.Awaited.{never}
 use Rattle.judging.specs.Verdict.{Content, content_all, Redrawn, judged}
 use Rattle.judging.specs.Honest.{Honest, over, round1, round0}
 use Rattle.blameless.specs.Transcript.{event_word, is_end, closed_from}
@@ -27,7 +26,7 @@ is_end_lem n false = or_right (same_row (said_bytes (end n false)) (said_bytes (
 
 module _ (t : Task) (law : WordLaw t) (n : ℕ) (few : n < 2 ^ 24) (w : List ℕ) where
   not_read : (f : ℕ) (c : Bool) → Refused t (AnEnd n) w f → read_word t w ≡ got (end n c) → ⊥
-  not_read f c (no_word f' e) r = never f _ (sym e ∙ r)
+  not_read f c (no_word f' e) r = cc
   not_read f c (not_awaited x e differs) r = let k : x ≡ end n c = cc in differs (c, k)
 
   no_end_lem : (f : ℕ) → Refused t (AnEnd n) w f → is_end n (heard w) ≡ false

@@ -10,12 +10,6 @@ use Rattle.words.specs.Reading.{exactly, read_word}
 use Rattle.words.proofs.Laws.{by_kind, unknown_kind}
 use Rattle.cutting.specs.Cutting.{Asked, Round, Awaits, for_boxes, for_ask, for_answer, for_end, for_nothing, Heard, waits, closes, Answer, is_opened, is_not_content, on_boxes, on_ask, on_answer, on_end, answered, awaited, hear, behind, Cut, cut_into, fault_in, also_round, cut_short, cut_on, cut_from, if_any, onto, all_words}
 
-pub never : {A P : Type 0} (f : ℕ) (x : A) → refused f ≡ got x → P
-never f x e = let z : ◌≡◌ {A = ℕ} 0 1 = cc in absurd (omega arith)
-
-no_cut : {P : Type 0} (f n : ℕ) (rs : List Round) → fault_in f n ≡ cut_into rs → P
-no_cut f n rs e = let z : ◌≡◌ {A = ℕ} 0 1 = cc in absurd (omega arith)
-
 module _ (t : Task) where
   -- how long the bytes are that were read as a word of a round
   abbrev Long : ℕ → Said → Type 0
@@ -39,30 +33,30 @@ module _ (t : Task) where
       subst (Long l) same (h p.0)
 
   read_long : (bs : List ℕ) (x : Said) → read_word t bs ≡ got x → Long (length bs) x
-  read_long [] = λ x e. never 1 x e
+  read_long [] = λ x e. cc
   read_long (k ∷ bs) =
       by_kind (λ k. (x : Said) → read_word t (k ∷ bs) ≡ got x → Long (length (k ∷ bs)) x)
       (then_long (read_task (1 ∷ bs)) (λ _. task (1 ∷ bs)) _ (λ _. tt)) (then_long (read_plan t (2 ∷ bs)) plan _ (λ _. tt))
       (exact_long (7 + 32 * t.trains) _ _ (3 ∷ bs) (λ e. e)) (exact_long 7 true _ (4 ∷ bs) (λ e. e)) (exact_long 75 true _ (5 ∷ bs) (λ e. e)) (exact_long 6 _ _ (6 ∷ bs) (λ e. e))
-      (λ k u x e. never 1 x (sym (unknown_kind t k bs u) ∙ e)) k
+      (λ k u x e. cc (unknown_kind t k bs u)) k
 
   -- the word that was awaited is as long as such a word is
 
   boxes-long : (n l : ℕ) (x : Said) (y : Looked) → on_boxes n x ≡ got y → Long l x → l ≡ 7 + 32 * t.trains
   boxes-long n l (boxes r ds) y e h = h
-  boxes-long n l (task bs) y e h = never 6 y e
-  boxes-long n l (plan p) y e h = never 6 y e
-  boxes-long n l (ask r i) y e h = never 6 y e
-  boxes-long n l (opened r a b) y e h = never 6 y e
-  boxes-long n l (end r c) y e h = never 6 y e
+  boxes-long n l (task bs) y e h = cc
+  boxes-long n l (plan p) y e h = cc
+  boxes-long n l (ask r i) y e h = cc
+  boxes-long n l (opened r a b) y e h = cc
+  boxes-long n l (end r c) y e h = cc
 
   ask-long : (n l : ℕ) (x : Said) (y : ℕ) → on_ask n x ≡ got y → Long l x → l ≡ 7
   ask-long n l (ask r i) y e h = h
-  ask-long n l (task bs) y e h = never 6 y e
-  ask-long n l (plan p) y e h = never 6 y e
-  ask-long n l (boxes r ds) y e h = never 6 y e
-  ask-long n l (opened r a b) y e h = never 6 y e
-  ask-long n l (end r c) y e h = never 6 y e
+  ask-long n l (task bs) y e h = cc
+  ask-long n l (plan p) y e h = cc
+  ask-long n l (boxes r ds) y e h = cc
+  ask-long n l (opened r a b) y e h = cc
+  ask-long n l (end r c) y e h = cc
 
   abbrev AnswerLong : ℕ → Answer → Type 0
   AnswerLong l is_opened = l ≡ 75
@@ -77,18 +71,18 @@ module _ (t : Task) where
       let p = cond-got (eqb r n && not c) 6 (got is_not_content) y e in
       let same : is_not_content ≡ y = cc p.1 in
       subst (AnswerLong l) same h
-  answer-long n l (task bs) y e h = never 6 y e
-  answer-long n l (plan p) y e h = never 6 y e
-  answer-long n l (boxes r ds) y e h = never 6 y e
-  answer-long n l (ask r i) y e h = never 6 y e
+  answer-long n l (task bs) y e h = cc
+  answer-long n l (plan p) y e h = cc
+  answer-long n l (boxes r ds) y e h = cc
+  answer-long n l (ask r i) y e h = cc
 
   end-long : (n l : ℕ) (x : Said) (y : Bool) → on_end n x ≡ got y → Long l x → l ≡ 6
   end-long n l (end r c) y e h = h
-  end-long n l (task bs) y e h = never 6 y e
-  end-long n l (plan p) y e h = never 6 y e
-  end-long n l (boxes r ds) y e h = never 6 y e
-  end-long n l (ask r i) y e h = never 6 y e
-  end-long n l (opened r a b) y e h = never 6 y e
+  end-long n l (task bs) y e h = cc
+  end-long n l (plan p) y e h = cc
+  end-long n l (boxes r ds) y e h = cc
+  end-long n l (ask r i) y e h = cc
+  end-long n l (opened r a b) y e h = cc
 
   -- the words of a round have their lengths
 
@@ -146,7 +140,7 @@ module _ (t : Task) where
   awaited-led n (for_end a o) w h s e =
       heard w (on_end n) (λ c. closes record { asked = a; opened = o; end = w; content = c }) h (Led (for_end a o) w) e (λ x y f l.
       (record { asked_are = s.0; opened_is = inl s.1; end_is = end-long n _ x y f l }, λ ws. ap (λ vs. a.boxes ∷ a.ask ∷ vs) (some o (w ∷ ws) s.1)))
-  awaited-led n for_nothing w h s e = let p = then_got (read_word t w) (λ _. refused 6) h e in never 6 h p.2
+  awaited-led n for_nothing w h s e = let p = then_got (read_word t w) (λ _. refused 6) h e in cc
 
   hear-led : (n : ℕ) (a : Awaits) (w : List ℕ) (h : Heard) → SoFar a → hear t n a w ≡ got h → Led a w h
   hear-led n a w h s e =
@@ -167,13 +161,13 @@ module _ (t : Task) where
   unfolding all_words
   none_left n for_boxes rs e = let same : [] ≡ rs = cc in subst (λ rs. Shaped rs []) same (record { words_are = refl; rounds_are = tt })
   none_left n for_nothing rs e = let same : [] ≡ rs = cc in subst (λ rs. Shaped rs []) same (record { words_are = refl; rounds_are = tt })
-  none_left n (for_ask b) rs e = no_cut 1 n rs e
-  none_left n (for_answer a) rs e = no_cut 1 n rs e
-  none_left n (for_end a o) rs e = no_cut 1 n rs e
+  none_left n (for_ask b) rs e = cc
+  none_left n (for_answer a) rs e = cc
+  none_left n (for_end a o) rs e = cc
 
   also : (r : Round) (c : Cut) (rs : List Round) → also_round r c ≡ cut_into rs → (qs : List Round) × (c ≡ cut_into qs) × (rs ≡ r ∷ qs)
   also r (cut_into qs) rs e = (qs, refl, cc)
-  also r (fault_in f n) rs e = no_cut f n rs e
+  also r (fault_in f n) rs e = cc
 
   nothing_yet : (r : Round) → SoFar (behind r) × ((ws : List (List ℕ)) → came (behind r) ws ≡ ws)
   nothing_yet r = go r.content
@@ -185,7 +179,7 @@ module _ (t : Task) where
   one_word : (w : List ℕ) (ws : List (List ℕ)) → Shapes ws → (n : ℕ) (a : Awaits) (rs : List Round) → SoFar a → (g : Got Heard) → hear t n a w ≡ g →
       cut_on n g (λ b. cut_from t n b ws) (λ r. cut_from t (n + 1) (behind r) ws) ≡ cut_into rs → Shaped rs (came a (w ∷ ws))
   unfolding all_words
-  one_word w ws ih n a rs s (refused f) h e = no_cut f n rs e
+  one_word w ws ih n a rs s (refused f) h e = cc
   one_word w ws ih n a rs s (got (waits b)) h e =
       let l = hear-led n a w (waits b) s h in
       let f = ih n b rs l.0 e in

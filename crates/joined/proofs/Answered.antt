@@ -24,7 +24,7 @@ use Rattle.joined.specs.Side.{says, hears, against}
 use Rattle.joined.specs.Sides.{goes, plans}
 use Rattle.joined.specs.Answered.{Accepted, AnsweredHere, Answered, Completes}
 use Rattle.joined.proofs.Sides.{sides_run, plans-out}
-use Rattle.joined.proofs.Written.{never, ask_had, asked_for, lot_had, task-reads, boxes-reads, opened-reads, accepted}
+use Rattle.joined.proofs.Written.{ask_had, asked_for, lot_had, task-reads, boxes-reads, opened-reads, accepted}
 
 module _ (H : List ℕ → List ℕ) (sized : Sized H) (t : Task) (good : sound t ≡ true) (p : Plan) (fp : fits t p ≡ true) (r : ℕ) (few : r ≤ 2 ^ 32) (other : Other) where
   abbrev state : ℕ → List ℕ → Ready
@@ -71,7 +71,7 @@ module _ (H : List ℕ → List ℕ) (sized : Sized H) (t : Task) (good : sound 
 
       round_well : (v : List ℕ) (rest : List Event) → Answered H t rest → Answered H t (events v rest)
       unfolding Answered against
-      round_well v rest well = (here w (sent opened.opened ∷ heard v ∷ rest) opens, (tt, ((λ m j ds b. never (cc (b, opened_read))), (tt, well))))
+      round_well v rest well = (here w (sent opened.opened ∷ heard v ∷ rest) opens, (tt, ((λ m j ds b. cc (b, opened_read)), (tt, well))))
         where
           opens : (j : ℕ) → read_word t w ≡ got (ask n j) → j < length t.pairs → Accepted H t n j digests (sent opened.opened ∷ heard v ∷ rest)
           opens j a k =
@@ -93,7 +93,7 @@ module _ (H : List ℕ → List ℕ) (sized : Sized H) (t : Task) (good : sound 
         Went line (against other (goes (answer closed w) (λ o. says o.opened (hears (λ v. plans H left h.left (and_on (hear o v) (settle H)))))) (heard w ∷ sent closed.boxes ∷ line))
     unfolding Answered against
     by_ask w (refused f) e =
-        let well : Answered H t (sent closed.boxes ∷ heard w ∷ []) = (here w [] (λ i a k. never (cc (ap (λ x. and_then x (on_ask t n)) a ∙ asked_for t n i k, e))), (tt, tt)) in
+        let well : Answered H t (sent closed.boxes ∷ heard w ∷ []) = (here w [] (λ i a k. cc (ap (λ x. and_then x (on_ask t n)) a ∙ asked_for t n i k, e)), (tt, tt)) in
         rw e (record { rest = sent closed.boxes ∷ heard w ∷ []; is = refl; well = well })
     by_ask w (got i) e = rw e (by_end w i e (other (sent (said_bytes (opened_for t n p h.what i)) ∷ heard w ∷ sent closed.boxes ∷ line)) _ refl)
 
@@ -115,7 +115,7 @@ module _ (H : List ℕ → List ℕ) (sized : Sized H) (t : Task) (good : sound 
   first : (rest : List Event) → AnsweredHere H t (sent (task_bytes t)) rest
   first [] = tt
   first (sent w ∷ rest) = tt
-  first (heard w ∷ rest) = λ m i ds b. never (cc (b, task-reads H sized t good p fp r few))
+  first (heard w ∷ rest) = λ m i ds b. cc (b, task-reads H sized t good p fp r few)
 
 pub completes : Completes
 unfolding Answered against

@@ -32,14 +32,14 @@ use Rattle.joined.specs.Side.{Side, says, hears, as_other, joined, given, exchan
 use Rattle.joined.specs.Sides.{goes, plans, planner, asks, asker}
 use Rattle.joined.specs.Joined.{round_on, Goes, all_rounds, planner_lacks, asker_lacks, both_lack, content_round, Together, Joins}
 use Rattle.joined.proofs.Sides.{joined_is, sides_run}
-use Rattle.joined.proofs.Written.{never, lot_had, task-reads, ask-reads, end_reads, boxes-reads, opened-reads, accepted}
+use Rattle.joined.proofs.Written.{lot_had, task-reads, ask-reads, end_reads, boxes-reads, opened-reads, accepted}
 
 -- too few bytes for a lot are fault 11
 lot-short : (t : Task) (bs : List ℕ) → T (all_below 256 bs) → (f : ℕ) → lot_in t bs ≡ refused f → f ≡ 11
 lot-short t bs below f e = go (drawn (coin_moduli t) bs) (rw e at (lot_coin t bs below))
   where
     go : (d : Drawn) → refused f ≡ had_by (coin_of t) d → f ≡ 11
-    go (drew ds left) q = never (cc)
+    go (drew ds left) q = cc
     go short q = cc
 
 -- two sides that say one word each in turn, twice
@@ -215,7 +215,7 @@ module _ (H : List ℕ → List ℕ) (sized : Sized H) (t : Task) (good : sound 
 
   each-got : {A B : Type 0} (f : A → B) (g : Got (Had A)) (x : Had B) → each_as f g ≡ got x → (y : Had A) × (g ≡ got y)
   each-got f (got y) x e = (y, refl)
-  each-got f (refused n) x e = never (cc)
+  each-got f (refused n) x e = cc
 
   more-in_turn : {A : Type 0} (one : List ℕ → Got (Had A)) (left : ℕ) (bs : List ℕ) (h : Had A) (xs : Had (List A)) → one bs ≡ got h → in_turn one (suc left) bs ≡ got xs →
       (ys : Had (List A)) × (in_turn one left h.left ≡ got ys)
@@ -225,7 +225,7 @@ module _ (H : List ℕ → List ℕ) (sized : Sized H) (t : Task) (good : sound 
   none-in_turn : {A P : Type 0} (one : List ℕ → Got (Had A)) (n left : ℕ) (bs : List ℕ) (xs : Had (List A)) → n < r → n + left ≡ r → one bs ≡ refused 11 → in_turn one left bs ≡ got xs → P
   unfolding in_turn
   none-in_turn one n zero bs xs k c e j = absurd (omega arith)
-  none-in_turn one n (suc left) bs xs k c e j = let z = rw e at j in never (cc)
+  none-in_turn one n (suc left) bs xs k c e j = let z = rw e at j in cc
 
   abbrev Content : List Event → Over → List Event → Over → Type 0
   Content line o its_line o' = (o.outcome ≡ content r) × (o' ≡ o) × (its_line ≡ exchanged line)

@@ -24,17 +24,14 @@ use Rattle.round.proofs.Rounds.{rising_in}
 use Rattle.round.proofs.Complete.{complete}
 use Rattle.planning.specs.Planning.{on_ask}
 
-pub never : {P : Type 0} → ◌≡◌ {A = ℕ} 0 1 → P
-never e = absurd (omega (arith, e))
-
 -- the Ask that is answered
 pub ask_had : (t : Task) (n i : ℕ) (g : Got Said) → and_then g (on_ask t n) ≡ got i → (g ≡ got (ask n i)) × (i < length t.pairs)
-ask_had t n i (refused f) e = never (cc)
-ask_had t n i (got (task bs)) e = never (cc)
-ask_had t n i (got (plan p)) e = never (cc)
-ask_had t n i (got (boxes r ds)) e = never (cc)
-ask_had t n i (got (opened r x y)) e = never (cc)
-ask_had t n i (got (end r c)) e = never (cc)
+ask_had t n i (refused f) e = cc
+ask_had t n i (got (task bs)) e = cc
+ask_had t n i (got (plan p)) e = cc
+ask_had t n i (got (boxes r ds)) e = cc
+ask_had t n i (got (opened r x y)) e = cc
+ask_had t n i (got (end r c)) e = cc
 ask_had t n i (got (ask r j)) e =
     let a = cond-got (eqb r n) 6 _ i e in
     let b = cond-got (ltb j (length t.pairs)) 7 _ i a.1 in

@@ -33,8 +33,8 @@ module _ (t : Task) where
   same-words : (rs ss : List Round) → All (RoundLong t) rs → All (RoundLong t) ss → map text_of rs ≡ map text_of ss → all_words rs ≡ all_words ss
   unfolding all_words
   same-words [] [] ps qs e = refl
-  same-words [] (s ∷ ss) ps qs e = let z : ◌≡◌ {A = ℕ} 0 1 = cc in absurd (omega arith)
-  same-words (r ∷ rs) [] ps qs e = let z : ◌≡◌ {A = ℕ} 0 1 = cc in absurd (omega arith)
+  same-words [] (s ∷ ss) ps qs e = cc
+  same-words (r ∷ rs) [] ps qs e = cc
   same-words (r ∷ rs) (s ∷ ss) (p, ps) (q, qs) e =
       let x : text_of r ≡ text_of s = cc in
       let xs : map text_of rs ≡ map text_of ss = cc in

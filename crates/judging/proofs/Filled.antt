@@ -10,7 +10,7 @@ use Rattle.round.proofs.Rounds.{boxes_written}
 
 wrote_this : (r : Option ℕ) (after bs : List ℕ) (n : ℕ) → wrote_to r after ≡ wrote n bs → after ≡ bs
 wrote_this (Some k) after bs n e = cc
-wrote_this None after bs n e = let z : ◌≡◌ {A = ℕ} 0 1 = cc in absurd (omega arith)
+wrote_this None after bs n e = cc
 
 -- behind the head stand the boxes that the plan and the lot give
 pub boxes-behind : (n : ℕ) (p order chances out after : List ℕ) (r : Option ℕ) → length chances ≡ 32 * length p → length out ≡ 7 + 32 * length p →

@@ -21,10 +21,6 @@ same_true xs ys e = (same_decides xs ys).1 e
 same_false : (xs ys : List ℕ) → (xs ≡ ys → ⊥) → same_row xs ys ≡ false
 same_false xs ys ne = elim (cases_Bool (same_row xs ys)) [ inl e ↦ absurd (ne ((same_decides xs ys).0 e)) | inr e ↦ e ]
 
--- rows are the same or not
-decide : (xs ys : List ℕ) → (xs ≡ ys) ⊎ (xs ≡ ys → ⊥)
-decide xs ys = elim (cases_Bool (same_row xs ys)) [ inl e ↦ inl ((same_decides xs ys).0 e) | inr e ↦ inr (λ q. false≢true (sym e ∙ same_true xs ys q)) ]
-
 -- the first of m numbers from i on for which a test holds, or none
 module _ (is : ℕ → Bool) where
   data First (i m : ℕ) : Option ℕ → Type 0 where

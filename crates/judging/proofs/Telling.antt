@@ -1,5 +1,5 @@
 -- Nothing is told of words that don't fit the digest; and which drawn bytes serve. Assumes nothing.
-use Rattle.std.proofs.Common.{◌≡◌, ℕ, Bool, true, false, List, ◌++◌, length, Some, None, Option, sym, refl, ap, ◌∙◌, arith}
+use Rattle.std.proofs.Common.{◌≡◌, ℕ, Bool, true, false, List, ◌++◌, length, Some, None, Option, sym, refl, ap, ◌∙◌}
 use Rattle.paths.specs.Plan.{Plan}
 use Rattle.paths.specs.Count.{same_row}
 use Rattle.tasks.specs.Reading.{Got, got, refused}
@@ -27,7 +27,7 @@ book-first H t digest ws rs e = record { other = other; fits = fits }
       where
         go : (b : Bool) → same_row (book_of H t rs) digest ≡ b → judge H t p drawn digest (cut_into rs) ≡ judged n c d → (book_of H t rs ≡ digest) × (length rs ≡ n)
         go true s h = let k = rw s at h in ((same_decides _ _).0 s, cc)
-        go false s h = let k = rw s at h in let z : ◌≡◌ {A = ℕ} 0 1 = cc in absurd (omega arith)
+        go false s h = let k = rw s at h in cc
 
 pub front_serves : (H : List ℕ → List ℕ) → FrontServes H
 front_serves H s w front more h e = (go (hear s.task s.round s.awaits w), ap left_in follows)

@@ -1,5 +1,5 @@
 -- The Ask and the End that are awaited: which bytes are one, and what is made of others. Assumes nothing.
-use Rattle.std.proofs.Common.{◌≡◌, ℕ, ◌<◌, ◌≤◌, Bool, true, false, eqb, ltb, ◌⊎◌, List, length, refl, ap, ◌∙◌, inl, inr, arith}
+use Rattle.std.proofs.Common.{◌≡◌, ℕ, ◌<◌, ◌≤◌, Bool, true, false, eqb, ltb, ◌⊎◌, List, length, refl, ap, ◌∙◌, inl, inr}
 use Rattle.std.proofs.lemmas.Bool.{cases_Bool, eqb-true, eqb-false, ltb-true, ltb-false}
 use Rattle.paths.specs.Plan.{Task, all_below}
 use Rattle.tasks.specs.Reading.{Got, got, refused, and_then}
@@ -8,9 +8,6 @@ use Rattle.words.specs.Reading.{read_word}
 use Rattle.words.specs.Writing.{said_bytes, WordLaw}
 use Rattle.planning.specs.Planning.{on_ask, ask_in, on_end, end_in}
 use Rattle.planning.specs.Conduct.{AnAsk, AnEnd, Refused, no_word, not_awaited}
-
-pub never : {A B : Type 0} (f : ℕ) (x : A) → refused f ≡ got x → B
-never f x e = let z : ◌≡◌ {A = ℕ} 0 1 = cc in absurd (omega arith)
 
 module _ (t : Task) (n : ℕ) (w : List ℕ) where
   -- what is made of the bytes where an Ask is awaited
@@ -41,11 +38,11 @@ module _ (t : Task) (n : ℕ) (w : List ℕ) where
 
     ask_in_lem : (x : Said) → read_word t w ≡ got x → AskHeard
     ask_in_lem (ask r i) e = by_round r i e (cases_Bool _)
-    ask_in_lem (task bs) e = no_ask_lem (task bs) e refl (λ q. let z : ◌≡◌ {A = ℕ} 0 1 = cc q.1 in omega arith)
-    ask_in_lem (plan p) e = no_ask_lem (plan p) e refl (λ q. let z : ◌≡◌ {A = ℕ} 0 1 = cc q.1 in omega arith)
-    ask_in_lem (boxes r ds) e = no_ask_lem (boxes r ds) e refl (λ q. let z : ◌≡◌ {A = ℕ} 0 1 = cc q.1 in omega arith)
-    ask_in_lem (opened r x y) e = no_ask_lem (opened r x y) e refl (λ q. let z : ◌≡◌ {A = ℕ} 0 1 = cc q.1 in omega arith)
-    ask_in_lem (end r c) e = no_ask_lem (end r c) e refl (λ q. let z : ◌≡◌ {A = ℕ} 0 1 = cc q.1 in omega arith)
+    ask_in_lem (task bs) e = no_ask_lem (task bs) e refl (λ q. cc q.1)
+    ask_in_lem (plan p) e = no_ask_lem (plan p) e refl (λ q. cc q.1)
+    ask_in_lem (boxes r ds) e = no_ask_lem (boxes r ds) e refl (λ q. cc q.1)
+    ask_in_lem (opened r x y) e = no_ask_lem (opened r x y) e refl (λ q. cc q.1)
+    ask_in_lem (end r c) e = no_ask_lem (end r c) e refl (λ q. cc q.1)
 
     by_end : (r : ℕ) (c : Bool) → read_word t w ≡ got (end r c) → (eqb r n ≡ true) ⊎ (eqb r n ≡ false) → EndHeard
     by_end r c e (inl h) = let s = eqb-true r n h in ends c ((law.only w _ bytes e).1 ∙ ap (λ m. said_bytes (end m c)) s) (rw (e, h) refl)
@@ -53,11 +50,11 @@ module _ (t : Task) (n : ℕ) (w : List ℕ) where
 
     end_in_lem : (x : Said) → read_word t w ≡ got x → EndHeard
     end_in_lem (end r c) e = by_end r c e (cases_Bool _)
-    end_in_lem (task bs) e = no_end_lem (task bs) e refl (λ q. let z : ◌≡◌ {A = ℕ} 0 1 = cc q.1 in omega arith)
-    end_in_lem (plan p) e = no_end_lem (plan p) e refl (λ q. let z : ◌≡◌ {A = ℕ} 0 1 = cc q.1 in omega arith)
-    end_in_lem (boxes r ds) e = no_end_lem (boxes r ds) e refl (λ q. let z : ◌≡◌ {A = ℕ} 0 1 = cc q.1 in omega arith)
-    end_in_lem (ask r i) e = no_end_lem (ask r i) e refl (λ q. let z : ◌≡◌ {A = ℕ} 0 1 = cc q.1 in omega arith)
-    end_in_lem (opened r x y) e = no_end_lem (opened r x y) e refl (λ q. let z : ◌≡◌ {A = ℕ} 0 1 = cc q.1 in omega arith)
+    end_in_lem (task bs) e = no_end_lem (task bs) e refl (λ q. cc q.1)
+    end_in_lem (plan p) e = no_end_lem (plan p) e refl (λ q. cc q.1)
+    end_in_lem (boxes r ds) e = no_end_lem (boxes r ds) e refl (λ q. cc q.1)
+    end_in_lem (ask r i) e = no_end_lem (ask r i) e refl (λ q. cc q.1)
+    end_in_lem (opened r x y) e = no_end_lem (opened r x y) e refl (λ q. cc q.1)
 
     pub ask-heard : AskHeard
     ask-heard = go (read_word t w) refl

@@ -1,5 +1,5 @@
 -- The planner's run keeps to its conduct. Assumes nothing.
-use Rattle.std.proofs.Common.{◌≡◌, ℕ, zero, suc, ◌+◌, ◌*◌, ◌<◌, true, false, leb, ◌⊎◌, List, [], ◌∷◌, ◌++◌, reverse, length, sym, refl, ap, ◌∙◌, inl, inr, append-nil, zero-add, arith}
+use Rattle.std.proofs.Common.{◌≡◌, ℕ, zero, suc, ◌+◌, ◌*◌, ◌<◌, true, false, leb, ◌⊎◌, List, [], ◌∷◌, ◌++◌, reverse, length, refl, ap, ◌∙◌, inl, inr, append-nil, zero-add, arith}
 use mathlib.Core.List.{reverse_aux}
 use Rattle.std.proofs.lemmas.Bool.{cases_Bool, lt-ltb, le-ltb}
 use Rattle.paths.specs.Plan.{Task, Plan}
@@ -16,18 +16,18 @@ use Rattle.planning.specs.Planning.{Ready, Closed, Opened, turn, left_over, answ
 use Rattle.round.specs.Line.{Event, sent, heard, Other, SaysBytes, Ran}
 use Rattle.planning.specs.Run.{Gone, and_on, sending, one_round, run}
 use Rattle.planning.specs.Conduct.{boxes_word, opened_word, text, From, all_rounds, drawn_out, no_ask, no_pair, no_end, end0, end1, Conduct}
-use Rattle.planning.proofs.Awaited.{never, AskHeard, asks, asks_none, asks_not, EndHeard, ends, ends_not, ask-heard, end-heard}
+use Rattle.planning.proofs.Awaited.{AskHeard, asks, asks_none, asks_not, EndHeard, ends, ends_not, ask-heard, end-heard}
 
 -- a lot is refused by fault 11 alone
 had_short : {A : Type 0} (read : List ℕ → A) (d : Drawn) (f : ℕ) → had_by read d ≡ refused f → f ≡ 11
-had_short read (drew ds left) f e = never f _ (sym e)
+had_short read (drew ds left) f e = cc
 had_short read short f e = cc
 
 lot-short : (t : Task) (bs : List ℕ) (f : ℕ) → lot_in t bs ≡ refused f → f ≡ 11
 lot-short t bs f e = go (order_in t.paths bs) refl
   where
     chances : (o : Had (List ℕ)) → (leb (32 * t.trains) (length o.left) ≡ true) ⊎ (leb (32 * t.trains) (length o.left) ≡ false) → chances_in t.trains o.what o.left ≡ refused f → f ≡ 11
-    chances o (inl b) q = never f _ (sym (rw b at q))
+    chances o (inl b) q = let r = rw b at q in cc
     chances o (inr b) q = let s : chances_in t.trains o.what o.left ≡ refused 11 = rw b refl in cc
 
     go : (g : Got (Had (List ℕ))) → order_in t.paths bs ≡ g → f ≡ 11

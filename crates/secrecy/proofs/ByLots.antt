@@ -10,7 +10,6 @@ use Rattle.round.specs.Line.{Event, sent, heard, Other}
 use Rattle.round.specs.Over.{Over, Leads, on, out}
 use Rattle.planning.specs.Planning.{Ready, Closed, Opened, turn, ask_in, end_in, hear, settle}
 use Rattle.planning.specs.Run.{and_on, run}
-use Rattle.planning.proofs.Awaited.{never}
 use Rattle.secrecy.specs.Lots.{close_lot, open_lot, run_lots, and_lots, lots_in, ByLots}
 
 -- where nothing more is done
@@ -26,14 +25,14 @@ OfTask t (out o) = Unit {0}
 
 -- a lot is refused by fault 11 alone
 had_short : {A : Type 0} (read : List ℕ → A) (d : Drawn) (f : ℕ) → had_by read d ≡ refused f → f ≡ 11
-had_short read (drew ds left) f e = never _ _ (sym e)
+had_short read (drew ds left) f e = cc
 had_short read short f e = cc
 
 pub lot-short : (t : Task) (bs : List ℕ) (f : ℕ) → lot_in t bs ≡ refused f → f ≡ 11
 lot-short t bs f e = go (order_in t.paths bs) refl e
   where
     chances : (b : Bool) (x : Had Lot) → cond b (got x) (refused 11) ≡ refused f → f ≡ 11
-    chances true x q = never _ _ (sym q)
+    chances true x q = cc
     chances false x q = cc
 
     go : (g : Got (Had (List ℕ))) → order_in t.paths bs ≡ g → and_then g (λ o. chances_in t.trains o.what o.left) ≡ refused f → f ≡ 11

@@ -15,7 +15,6 @@ use Rattle.lots.proofs.Coins.{lots_had}
 use Rattle.lots.proofs.Steps.{chances_had}
 use Rattle.secrecy.specs.Lots.{lots_in, and_lots, Lots}
 use Rattle.secrecy.specs.Drawn.{Pen, aimed, rewrite_lots}
-use Rattle.planning.proofs.Awaited.{never}
 use Rattle.secrecy.proofs.Aiming.{aim-draws, aim-first, aim_own, aim-long, aim-below}
 
 -- the bytes of lots, aimed at these orders
@@ -191,7 +190,7 @@ module _ (t : Task) (k : t.paths ≤ 2 ^ 32) where
           subst (λ (x : Had Lot). aim_lots t os x.left ≡ x.left → aim_lots t (x.what.order ∷ os) bs ≡ bs) c.1
           (λ own. rw (row_order t.paths ds w) (aim_own (behind t os) _ ds w bs rest b (ap (on_bytes bs) d) (ap (λ xs. take (32 * t.trains) rest ++ xs) own ∙ take-append-drop (32 * t.trains) rest)))
           own
-      go short d w g = never _ _ g
+      go short d w g = cc
 
   pub lots_own : (r : ℕ) (bs : List ℕ) → T (all_below 256 bs) → aim_lots t (orders_of (lots_in t r bs)) bs ≡ bs
   unfolding lots_in rewrite_lots
