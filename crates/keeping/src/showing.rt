@@ -26,11 +26,7 @@ pub struct Showing<'a> {
 
 impl<'a> Showing<'a> {
     // With as many rounds as the options say, or the default.
-    pub fn open(
-        rt: &'a HostRuntime,
-        options: Options,
-        default: u32,
-    ) -> Result<Showing<'a>, Problem>
+    pub fn open(rt: &'a HostRuntime, options: Options, default: u32) -> Result<Showing<'a>, Problem>
         ensures { options.rounds ≡ None → default ≤ 2 ^ 24 → IfOk result (λ s. s.rounds.count ≡ default) }
     {
         let Options {
