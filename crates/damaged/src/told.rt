@@ -30,10 +30,7 @@ fn tell_word<W: fmt::Write>(word: Word, f: &mut fmt::Formatter<W>) -> fmt::Resul
         Word::Opened(round, first, second) => write!(
             f,
             "Opened of round {round}, train {} has {}, train {} has {}",
-            first.train,
-            first.number,
-            second.train,
-            second.number
+            first.train, first.number, second.train, second.number
         ),
         Word::End(round, true) => write!(f, "End of round {round}, content"),
         Word::End(round, false) => write!(f, "End of round {round}, not content"),

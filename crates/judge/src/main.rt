@@ -7,7 +7,8 @@ mod telling;
 
 use arguments::{Arguments, Wrong};
 use command::{
-    Ending, Input, LoadedTask, Problem, Usage, exit_code, load_fitting_plan, load_task, read_arguments,
+    Ending, Input, LoadedTask, Problem, Usage, exit_code, load_fitting_plan, load_task,
+    read_arguments,
 };
 use digest::digest_in;
 use drawing::default_rounds;

@@ -3,7 +3,8 @@
 
 use arguments::{Arguments, Wrong};
 use command::{
-    Ending, Input, LoadedTask, Problem, Usage, exit_code, load_fitting_plan, load_task, read_arguments,
+    Ending, Input, LoadedTask, Problem, Usage, exit_code, load_fitting_plan, load_task,
+    read_arguments,
 };
 use pairing::{Plans, ask_in};
 use std::io::{BufWriter, Write};
