@@ -78,7 +78,7 @@ mod tests {
         let second = input.read(2, &mut bytes).ok().ok_or("not read on")?;
         assert_eq!(rt; first, 4);
         assert_eq!(rt; second, 2);
-        assert!(rt; bytes.as_slice() == &[0, 0, 0, 0, 0, 0]);
+        assert!(rt; bytes.as_slice() == [0; 6].as_slice());
         Ok(())
     }
 }
