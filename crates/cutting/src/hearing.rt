@@ -1,10 +1,9 @@
 // The words of a round, each where it is awaited.
 ghost use Rattle.std.specs.Prelude.{◌≡◌, ◌^◌, ◌<◌, OnOk};
 ghost use Rattle.tasks.specs.Model.{task_of};
-ghost use Rattle.tasks.specs.Reading.{gives, looks, and_then};
+ghost use Rattle.tasks.specs.Reading.{gives, looks};
 ghost use Rattle.words.specs.Model.{said};
-ghost use Rattle.words.specs.Reading.{read_word};
-ghost use Rattle.cutting.specs.Cutting.{on_boxes, on_ask, on_answer, on_end, for_boxes, for_ask, for_answer, for_end, for_nothing, answered, awaited, hear};
+ghost use Rattle.cutting.specs.Cutting.{on_boxes, on_ask, on_answer, on_end, answered, awaited, hear};
 ghost use Rattle.cutting.specs.Laws.{Cuts};
 ghost use Rattle.cutting.specs.Phases.{asked_of, awaits_of, answer_of, heard_of};
 
@@ -12,6 +11,7 @@ use super::phases::{Answer, Asked, Awaits, Heard, Round};
 use tasks::{Fault, MOST_ROUNDS, Task};
 use words::{Word, read_word};
 
+// What was read, where it is awaited, is taken apart by `let .. else`: a form that the project keeps here.
 fn on_boxes(round: u32, word: Word) -> Result<(), Fault>
     ensures { looks result ≡ on_boxes round (said word.entry) }
 {

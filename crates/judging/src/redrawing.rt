@@ -7,7 +7,7 @@ ghost use Rattle.boxes.specs.Box.{boxes_of};
 ghost use Rattle.round.specs.Round.{held};
 ghost use Rattle.lots.specs.Views.{lot_of};
 ghost use Rattle.judging.specs.Verdict.{redrawn_of};
-ghost use Rattle.judging.specs.Judging.{first_from, other_box, other_opening, other_answer, other_train, redrawn_in, differs_at};
+ghost use Rattle.judging.specs.Judging.{first_from, other_box, other_opening, other_answer, other_train, redrawn_in};
 ghost use Rattle.judging.specs.Model.{judge_of};
 ghost use Rattle.cutting.specs.Phases.{round_of};
 ghost use Rattle.judging.specs.Plans.{plan_in};

@@ -1,5 +1,5 @@
 -- The run over drawn bytes is the run over the lots that they give. Assumes nothing.
-use Rattle.std.proofs.Common.{◌≡◌, ℕ, zero, suc, ◌<◌, Bool, true, false, cond, ltb, List, ◌∷◌, length, sym, refl, ap, ◌∙◌, subst, arith}
+use Rattle.std.proofs.Common.{◌≡◌, ℕ, zero, suc, ◌<◌, Bool, true, false, cond, ltb, List, ◌∷◌, length, refl, ap, ◌∙◌, subst, arith}
 use Rattle.paths.specs.Plan.{Task}
 use Rattle.drawing.specs.Drawing.{Drawn, drew, short}
 use Rattle.tasks.specs.Reading.{Got, got, refused, and_then}
