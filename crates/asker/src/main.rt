@@ -4,7 +4,7 @@
 mod showing;
 
 use command::{Ending, LoadedTask, Problem, Usage, exit_code, load_task, read_arguments};
-use keeping::{Options, Showing, Side};
+use keeping::{Options, Showing};
 use showing::Asker;
 use sides::start_asker;
 use soundness::enough_rounds;

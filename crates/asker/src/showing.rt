@@ -1,7 +1,7 @@
 // A showing, as the asker goes through it.
 use asking::{Awaiting, Ready, Tested};
 use command::Problem;
-use keeping::{Showing, Side, Stop};
+use keeping::{Showing, Side, Stop, run};
 use round::Over;
 
 #[derive(Drop)]
@@ -17,7 +17,7 @@ impl<'a> Asker<'a> {
         let word = self.showing.line.hear(&awaiting.task)?;
         let first = awaiting.meet(word.as_slice());
         self.showing.records.begin(Self::digest_of(&first))?;
-        self.run(first)
+        run(self, first)
     }
 
     fn close_round(&mut self, tested: Tested) -> Result<Ready, Stop> {

@@ -18,5 +18,5 @@ pub use options::Options;
 pub use progress::Progress;
 pub use records::Records;
 pub use rounds::rounds_for;
-pub use showing::{Showing, Side, Stop};
+pub use showing::{Showing, Side, Stop, run};
 pub use talk::Line;

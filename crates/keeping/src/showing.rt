@@ -1,6 +1,7 @@
 // A showing, as both sides go through it.
-ghost use Rattle.std.specs.Prelude.{◌≡◌, ◌^◌, ◌≤◌, IfOk, None};
+ghost use Rattle.std.specs.Prelude.{◌≡◌, ◌^◌, ◌≤◌, IfOk, None, Ok, Err};
 ghost use Rattle.round.specs.Over.{outcome_of};
+ghost use Rattle.round.specs.declared.over.Over.{Over};
 ghost use Rattle.keeping.specs.Endings.{ending_of};
 
 use super::drawn::Drawn;
@@ -90,26 +91,28 @@ pub trait Side {
 
     fn digest(ready: &Self::Ready) -> [u8; 32];
 
-    // The digest so far, or the last one.
+    // The digest so far, or the last one. No clause says so: the check doesn't hand one on to the method of an impl.
     fn digest_of(turn: &Result<Self::Ready, Over>) -> [u8; 32] {
         match turn {
             Ok(ready) => Self::digest(ready),
             Err(over) => over.digest,
         }
     }
+}
 
-    // All rounds, to the end.
-    fn run(&mut self, first: Result<Self::Ready, Over>) -> Result<Over, Problem> {
-        let mut turn = first.map_err(Stop::Over);
-        for _ in 0..=MOST_ROUNDS {
-            match turn {
-                Ok(ready) => turn = self.round(ready),
-                Err(Stop::Over(over)) => return Ok(over),
-                Err(Stop::Problem(problem)) => return Err(problem),
-            }
+// All rounds, to the end; none after an end.
+pub fn run<S: Side>(side: &mut S, first: Result<S::Ready, Over>) -> Result<Over, Problem>
+    ensures { (over : Over) → first ≡ Err over → result ≡ Ok over }
+{
+    let mut turn = first.map_err(Stop::Over);
+    for _ in 0..=MOST_ROUNDS {
+        match turn {
+            Ok(ready) => turn = side.round(ready),
+            Err(Stop::Over(over)) => return Ok(over),
+            Err(Stop::Problem(problem)) => return Err(problem),
         }
-        Err(Problem::Fault(Fault::TooManyRounds))
     }
+    Err(Problem::Fault(Fault::TooManyRounds))
 }
 
 #[cfg(test)]

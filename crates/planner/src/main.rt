@@ -7,7 +7,7 @@ use command::{
     Ending, LoadedTask, Problem, Usage, exit_code, load_fitting_plan, load_task, read_arguments,
 };
 use drawing::default_rounds;
-use keeping::{Options, Showing, Side};
+use keeping::{Options, Showing};
 use showing::Planner;
 use sides::start_planner;
 use std::process::ExitCode;

@@ -1,6 +1,6 @@
 // A showing, as the planner goes through it.
 use command::Problem;
-use keeping::{Showing, Side, Stop};
+use keeping::{Showing, Side, Stop, run};
 use planning::{Begun, Heard, Ready};
 use round::Over;
 
@@ -15,7 +15,7 @@ impl<'a> Planner<'a> {
         let Begun { word, next } = begun;
         self.showing.records.begin(Self::digest_of(&next))?;
         self.showing.line.send(word.as_slice())?;
-        self.run(next)
+        run(self, next)
     }
 
     fn close_round(&mut self, heard: Heard) -> Result<Ready, Stop> {
