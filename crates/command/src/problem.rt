@@ -24,6 +24,7 @@ pub enum Problem {
     Memory,
 }
 
+// This and the conversions are written out: some of them choose the case, and one text takes a part of its value.
 impl fmt::Display for Problem {
     fn fmt<W: fmt::Write>(&self, f: &mut fmt::Formatter<W>) -> fmt::Result {
         match self {
@@ -93,7 +94,7 @@ impl From<Fault> for Problem {
     }
 }
 
-// Tells a problem on standard error, with the usage where an argument is wrong, and hands on that there was one.
+// Tells a problem on standard error, with the usage where an argument is wrong, and hands on that there was one, and no more, since it was told.
 pub fn finish(rt: &HostRuntime, usage: &str, res: Result<(), Problem>) -> Result<(), ()>
     ensures { is_ok result ≡ is_ok res }
 {

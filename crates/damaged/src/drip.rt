@@ -1,4 +1,4 @@
-// A stream that gives a byte at a time.
+// A stream that gives a byte at a time. The tests of `line` have the same, since a library hands out nothing of its tests.
 use std::io;
 use std::io::Read;
 

@@ -29,6 +29,7 @@ fn draw_exchanges<'a>(row: &mut [u8], bytes: &'a [u8]) -> Result<&'a [u8], Fault
     ensures left { IfOk result (λ left. EndOf bytes.now left.now) }
 {
     let mut rest = bytes;
+    // by place, since the place is also what the number is drawn for
     for i in (1..row.len()).rev() {
         let number = draw_number(i as u32 + 1, rest)?;
         row.swap(i, number.what as usize);
@@ -44,6 +45,7 @@ pub(crate) fn draw_order(paths: u8, bytes: &[u8]) -> Result<Had<'_, Order>, Faul
     ensures order { gives (had_of order_of) result ≡ order_in paths bytes.now }
     ensures left { IfOk result (λ h. EndOf bytes.now h.left.now) }
 {
+    // a front of an array, since an order takes no memory of the heap
     let mut numbers = [0; 64];
     let row = &mut numbers[0..paths as usize];
     count_up(row);

@@ -8,6 +8,7 @@ ghost use Rattle.paths.specs.Partners.{are_two, partner_of, paired_by, paired};
 use super::order::Order;
 use std::array;
 
+// A struct of its own, as the pairs of other things in other crates: a `Two<u8>` would not say of what.
 #[derive(Clone, Copy, Debug, PartialEq, Eq)]
 pub struct TwoPaths {
     pub first: u8,

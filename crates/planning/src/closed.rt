@@ -3,7 +3,7 @@ use super::ready::Ready;
 use paths::Order;
 
 // `ready.boxes` is the Boxes word to send, and `ready.chances` are the chances in its boxes. `used` is how many of the drawn bytes the lot took, those passed
-// over too.
+// over too: a number, so that a state borrows nothing.
 #[derive(Drop)]
 pub struct Closed {
     pub ready: Ready,

@@ -99,6 +99,7 @@ pub(crate) fn maj<W: Words>(x: W, y: W, z: W) -> W
     x.and(y).xor(x.and(z)).xor(y.and(z))
 }
 
+// Four functions and not one of the three turns, since the standard names four.
 pub(crate) fn big_sigma0<W: Words>(x: W) -> W
     ensures { (j : ℕ) → j < W.lanes → W.lane result j ≡ Σ0 (W.lane x j) }
 {
