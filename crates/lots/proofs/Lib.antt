@@ -3,3 +3,4 @@ pub mod Steps
 pub mod Chances
 pub mod Coins
 pub mod Following
+pub mod Told

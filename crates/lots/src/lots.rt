@@ -36,6 +36,7 @@ fn chances_in(trains: u16, order: Order, bytes: &[u8]) -> Result<Had<'_, Lot<'_>
 
 // The lot of a round, or fault 11 where the bytes are too few for the order, with all values that are passed over, and for every chance. Lots are, as coins,
 // what the promises of uniformity speak of, round by round.
+#[tactic(auto, using(crate::proofs::Told::lot_laws))]
 pub fn draw_lot<'a>(task: &Task, bytes: &'a [u8]) -> Result<Had<'a, Lot<'a>>, Fault>
     ensures lot { gives (had_of lot_of) result ≡ lot_in (task_of task.now) bytes.now }
     ensures chances { IfOk result (λ h. length h.what.chances.now ≡ 32 * task.now.trains) }

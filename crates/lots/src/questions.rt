@@ -12,6 +12,7 @@ use tasks::{Fault, Task};
 
 // The question of a round, the number of a pair, or fault 11 where the bytes are too few. Questions are what the promises of uniformity speak of, round by
 // round.
+#[tactic(auto, using(crate::proofs::Told::question_laws))]
 pub fn draw_question<'a>(task: &Task, bytes: &'a [u8]) -> Result<Had<'a, u16>, Fault>
     ensures question { gives (had_of (λ i. i)) result ≡ question_in (task_of task.now) bytes.now }
     ensures pair { IfOk result (λ h. h.what < vec_len task.now.pairs) }
