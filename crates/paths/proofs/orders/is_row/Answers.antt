@@ -22,8 +22,3 @@ returns-then-number-bytes c =
       | then-number-bytes-via-else-number-bytes+then-met-number w ↦
           sym (passed-twice _ _ _ _ c.requires t c.loop-byte.invariant w.if-number-bytes.false w.if-met-number.true)
     ]
-
-pub returns : goal.returns
-returns c =
-    let t = YieldsList-end (YieldsList-from_rev_slice c.args.bytes.now cc) c.loop-byte.yielded _ c.loop-byte.yielded_by _ _ c.in-None.is c.next.ensures.steps in
-    sym (passed-all _ _ _ t.1 c.loop-byte.invariant)

@@ -10,8 +10,3 @@ invariant_of-result c =
     let r = still_row c.args.partners _ _ _ _ s.numbers s.count (sym c.if-not-are_two.ensures) (sym c.if-not-are_two-2.ensures) c.partners_numbers.ensures (and_from _ _ o.each_once o.all_there) in
     let p = and_parts _ _ r in
     record { some = o.some; few = o.few; each_once = p.0; all_there = p.1 }
-
-pub returns : goal.returns
-returns c =
-    let s = c.as_slice.ensures in
-    is_paired c.args.partners _ _ _ _ s.numbers s.count (sym c.if-not-are_two.ensures) (sym c.if-not-are_two-2.ensures) c.partners_numbers.ensures
