@@ -29,7 +29,7 @@ pub(super) fn turn(task: Task, rounds: Rounds, round: u32, digest: [u8; 32]) -> 
 }
 
 impl Ready {
-    // A fault in this round. The planner has the same over its own state: a trait for the two would be longer.
+    // A fault in this round. The planner has the same over its own state: a function for both would take as many words to call.
     pub(super) fn stops(&self, cause: Fault) -> Over
         ensures { over_of result ≡ record { outcome = fault (number cause) self.now.round; digest = self.now.digest } }
     {

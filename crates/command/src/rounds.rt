@@ -21,6 +21,7 @@ fn with_digit(count: u64, digit: u8) -> Option<u64>
     Some(count * 10 + (digit - b'0') as u64)
 }
 
+// By digits, and not by `parse`, which takes a sign and refuses a number of many digits.
 fn number(text: &[u8]) -> Option<u64>
     ensures { option_map asked_rounds result ≡ asked text.now }
 {

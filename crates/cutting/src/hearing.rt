@@ -11,7 +11,8 @@ use super::phases::{Answer, Asked, Awaits, Heard, Round};
 use tasks::{Fault, MOST_ROUNDS, Task};
 use words::{Word, read_word};
 
-// What was read, where it is awaited, is taken apart by `let .. else`: a form that the project keeps here.
+// What was read, where it is awaited, is taken apart by `let .. else`: a form that the project keeps here. Both sides test their words by code of their own,
+// since the judge stands on neither.
 fn on_boxes(round: u32, word: Word) -> Result<(), Fault>
     ensures { looks result ≡ on_boxes round (said word.entry) }
 {

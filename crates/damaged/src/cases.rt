@@ -1,5 +1,4 @@
 // The cases, and how one is told.
-use super::drip::Drip;
 use super::told::Told;
 use anyhow::anyhow;
 use line::read_word_from;
@@ -134,7 +133,7 @@ impl<'a> Table<'a> {
     // What a stream of these bytes gives.
     fn streamed(&self, bytes: &[u8]) -> anyhow::Result<Vec<u8>> {
         let mut word = Vec::new(self.rt.alloc());
-        let mut reader = BufReader::new(self.rt.alloc(), Drip { left: bytes })?;
+        let mut reader = BufReader::with_capacity(self.rt.alloc(), 1, bytes)?;
         match read_word_from(&mut reader, self.task, &mut word) {
             Ok(()) => Ok(word),
             Err(_) => Err(anyhow!("the stream can't be read")),

@@ -2,7 +2,6 @@
 #![tactic(auto)]
 
 mod cases;
-mod drip;
 mod told;
 
 use anyhow::anyhow;

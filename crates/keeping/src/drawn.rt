@@ -1,6 +1,7 @@
 // Drawn bytes, read as the rounds need them.
 use command::{Input, Problem};
 use lots::{draw_lot, draw_question};
+use std::io::ErrorKind;
 use tasks::Task;
 
 // What was read and not let go yet, and how much of it the last round took.
@@ -67,17 +68,20 @@ impl Drawn {
         Ok(())
     }
 
-    // Reads so many bytes more, or fewer where they end before.
+    // Reads so many bytes more, or fewer where they end before. Want of memory is told as such.
     fn read(&mut self, count: usize) -> Result<usize, Problem> {
-        self.input.read(count as u64, &mut self.bytes)
+        match self.input.read(count as u64, &mut self.bytes) {
+            Err(Problem::File(_, error)) if error.kind() == ErrorKind::OutOfMemory => Err(
+                Problem::Memory,
+            ),
+            other => other,
+        }
     }
 
-    // The bytes that the last round took are gone. The library has no `drain` of a Vec.
+    // The bytes that the last round took are gone.
     fn let_go(&mut self) {
         let taken = self.taken.min(self.bytes.len());
-        let left = self.bytes.len() - taken;
-        self.bytes.as_mut_slice().copy_within(taken.., 0);
-        self.bytes.truncate(left);
+        drop(self.bytes.drain(..taken));
         self.taken = 0;
     }
 }

@@ -1,4 +1,4 @@
-// Digests as text.
+// Digests as text, by hand, since the crate `hex` makes a text on the heap and this goes into lines that are formatted anyway.
 use std::fmt;
 
 // A digest, written as 64 digits.

@@ -1,4 +1,4 @@
-// A file that is written as the showing goes on. What is read is `Input` of `command`: another struct, since the two have no method in common.
+// A file that is written as the showing goes on. What is read is `Input` of `command`: one struct for both would share its two fields and no more.
 use command::Problem;
 use std::fs::File;
 use std::io;

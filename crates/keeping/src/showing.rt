@@ -91,7 +91,8 @@ pub trait Side {
 
     fn digest(ready: &Self::Ready) -> [u8; 32];
 
-    // The digest so far, or the last one. No clause says so: the check doesn't hand one on to the method of an impl.
+    // The digest so far, or the last one. No clause says so: a trait's clause isn't handed on to the method
+    // of an impl, and a function of its own would close a cycle of calls through the rounds.
     fn digest_of(turn: &Result<Self::Ready, Over>) -> [u8; 32] {
         match turn {
             Ok(ready) => Self::digest(ready),

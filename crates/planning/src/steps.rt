@@ -23,7 +23,7 @@ use round::{Outcome, Over, opened_word, write_boxes};
 use tasks::Fault;
 
 impl Ready {
-    // The end by a fault in this round. The asker has the same over its own state: a trait for the two would be longer.
+    // The end by a fault in this round. The asker has the same over its own state: a function for both would take as many words to call.
     fn stops(&self, fault: Fault) -> Over
         ensures { over_of result ≡ stops (ready_of self.now) (number fault) }
     {
