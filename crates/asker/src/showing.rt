@@ -28,13 +28,8 @@ impl<'a> Asker<'a> {
         let round = tested.asked.drawn.ready.round;
         let boxes = tested.asked.boxes.as_slice();
         let ask = &tested.asked.ask;
-        match tested.opened {
-            Some(opened) => self
-                .showing
-                .records
-                .words(boxes, ask, &opened, &tested.end)?,
-            None => self.showing.records.words(boxes, ask, &[], &tested.end)?,
-        }
+        let opened = tested.opened.as_ref().map_or(&[][..], |bytes| &bytes[..]);
+        self.showing.records.words(boxes, ask, opened, &tested.end)?;
         let next = tested.settle();
         self.showing.close_round(round, Self::digest_of(&next))?;
         Ok(next?)

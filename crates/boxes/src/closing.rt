@@ -6,6 +6,7 @@ ghost use Rattle.boxes.specs.Binding.{TextInjective, TextLong};
 
 use sha256::digest;
 
+// Round, train, number and chance one by one, as `close` has them: a form of the project.
 fn head(round: u32, train: u16, number: u8) -> [u8; 7]
     ensures { result ≡ box_text round train number [] }
 {

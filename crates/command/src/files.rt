@@ -1,4 +1,4 @@
-// Files that a program reads: tasks, and plans that fit them.
+// Files that a program reads: tasks, and plans that fit them. Each function says that its error names the file: no type ties an error to an argument.
 ghost use Rattle.std.specs.Prelude.{◌≡◌, true, IfOk, IfErr, None, Ok};
 ghost use Rattle.std.specs.Fn.{FnOnceReturnsAt};
 ghost use Rattle.paths.specs.Plan.{fits};

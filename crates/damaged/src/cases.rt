@@ -134,10 +134,10 @@ impl<'a> Table<'a> {
     fn streamed(&self, bytes: &[u8]) -> anyhow::Result<Vec<u8>> {
         let mut word = Vec::new(self.rt.alloc());
         let mut reader = BufReader::with_capacity(self.rt.alloc(), 1, bytes)?;
-        match read_word_from(&mut reader, self.task, &mut word) {
-            Ok(()) => Ok(word),
-            Err(_) => Err(anyhow!("the stream can't be read")),
-        }
+        read_word_from(&mut reader, self.task, &mut word).map_err(|_| anyhow!(
+            "the stream can't be read"
+        ))?;
+        Ok(word)
     }
 
     fn told(&self, bytes: &[u8]) -> anyhow::Result<String> {

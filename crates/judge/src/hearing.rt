@@ -37,10 +37,10 @@ impl Hearing {
 
     fn word(&mut self, task: &Task) -> Result<Vec<u8>, Problem> {
         let mut word = Vec::new(self.heap);
-        match read_word_from(&mut self.words.file, task, &mut word) {
-            Ok(()) => Ok(word),
-            Err(error) => Err(self.words.told(Problem::from(error))),
-        }
+        read_word_from(&mut self.words.file, task, &mut word).map_err(|error| self
+            .words
+            .told(Problem::from(error)))?;
+        Ok(word)
     }
 
     // Where the word at hand is the first of a round, the drawn bytes of that round, if they are handed over.
@@ -55,9 +55,6 @@ impl Hearing {
     }
 
     fn drawn(&self) -> &[u8] {
-        match &self.drawn {
-            Some(drawn) => drawn.bytes(),
-            None => &[],
-        }
+        self.drawn.as_ref().map_or(&[][..], |drawn| drawn.bytes())
     }
 }

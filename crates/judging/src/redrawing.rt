@@ -45,6 +45,7 @@ fn first_other(trains: u16, digests: &[u8], given: &[u8]) -> Option<u16>
     (0..trains).find(|train| other_box(digests, given, *train))
 }
 
+// By place, and part by part, since the word that is compared may be any bytes.
 #[tactic(auto, using(paths::proofs::Same::pointwise_same))]
 fn other_opening(pair: Pair, word: &[u8], given: &[u8]) -> Option<u16>
     ensures { result ≡ other_opening pair.first pair.second word.now given.now }

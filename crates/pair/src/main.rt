@@ -66,10 +66,10 @@ fn next_question(
     if round == MOST_ROUNDS {
         return Err(asked.in_round(Fault::TooManyRounds, round));
     }
-    match ask_in(&plans.task, round, bytes.as_slice()) {
-        Ok(question) => Ok(Some(question)),
-        Err(fault) => Err(asked.in_round(fault, round)),
-    }
+    let question = ask_in(&plans.task, round, bytes.as_slice()).map_err(|fault| asked.in_round(
+        fault, round,
+    ))?;
+    Ok(Some(question))
 }
 
 fn coin_bytes(task: &Task) -> u64 {
@@ -85,10 +85,9 @@ fn next_coin(
     bytes: &mut Vec<u8>,
 ) -> Result<(), Problem> {
     read(coins, coin_bytes(&plans.task), bytes)?;
-    match plans.pair_coin(question, bytes.as_mut_slice()) {
-        Ok(()) => Ok(()),
-        Err(fault) => Err(coins.in_round(fault, round)),
-    }
+    plans
+        .pair_coin(question, bytes.as_mut_slice())
+        .map_err(|fault| coins.in_round(fault, round))
 }
 
 // After the last pair the coins must end too.

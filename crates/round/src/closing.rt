@@ -33,6 +33,7 @@ fn numbers(plan: &Plan, order: &Order) -> [u8; 1024]
 }
 
 // Kind, round and the number of trains.
+// `words` writes the same before digests that are there already.
 fn boxes_head(round: u32, trains: u16) -> [u8; 7]
     ensures { result ≡ boxes_head round trains }
 {

@@ -30,7 +30,7 @@ impl Kind {
     }
 }
 
-// A byte that is no kind's is fault 1.
+// A byte that is no kind's is fault 1. Both tables are written out, as the definition is.
 impl TryFrom<u8> for Kind {
     type Error = Fault;
 
