@@ -26,13 +26,13 @@ fn alone(s: State<u32x8>, j: usize) -> State<u32>
     }
 }
 
-// By index: of `array::from_fn` the check knows the elements at numerals alone, and of `iter_mut` none.
+// The digests of the eight lanes.
 fn outputs(s: State<u32x8>) -> [[u8; 32]; 8]
     ensures { (j : ℕ) → j < 8 → slice_index_or result j [] ≡ outputOf (state_at lane s j) }
 {
     let mut all = [[0; 32]; 8];
-    for j in 0..8 {
-        all[j] = output(alone(s, j));
+    for (j, digest) in all.iter_mut().enumerate() {
+        *digest = output(alone(s, j));
     }
     all
 }

@@ -6,4 +6,4 @@ use Rattle.lanes.specs.Lane.{lane}
 use Rattle.lanes.proofs.texts.outputs.Given as goal
 
 abbrev pub invariant-loop-j : goal.invariant-loop-j
-invariant-loop-j l = ((k : ℕ) → k < l.j → get_or l.all k [] ≡ output (state_at lane l.s k)) × (length l.all ≡ 8)
+invariant-loop-j l = ((k : ℕ) → k < l.j → get_or l.digest-items k [] ≡ output (state_at lane l.s k)) × (length l.digest-items ≡ 8)
