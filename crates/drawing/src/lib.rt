@@ -5,15 +5,9 @@ ghost use Rattle.std.specs.Prelude.{◌≡◌, ◌-◌, ◌*◌, ◌^◌, ◌<�
 ghost use Rattle.drawing.specs.Enough.{Halves, Enough};
 ghost use Rattle.drawing.specs.Uniform.{Remainders, Ways, Rows, Shares, InTurn, Bytes, Aims, AimsInTurn, Orders, Showings, EvenOrders, EvenQuestions, QuestionShares, EvenShowings};
 
-// Forty for each pair.
-fn forty_for_each(pairs: u16) -> u32
-    ensures { result ≡ 40 * pairs }
-{
-    40 * (pairs as u32)
-}
-
 // How many rounds a showing has where nobody says otherwise: 40 for each pair.
 // A planner with no plan that fits passes each round in at most all ways to ask but one, so it passes them all with a chance of at most 1 in 2^40.
+#[tactic(auto, using(crate::proofs::Rounds::enough, crate::proofs::Rounds::halves))]
 pub fn default_rounds(pairs: u16) -> u32
     ensures is { result ≡ 40 * pairs }
     ensures most { pairs ≤ 4096 → result ≤ 163840 }
@@ -21,7 +15,7 @@ pub fn default_rounds(pairs: u16) -> u32
     ensures halves { Halves }
     ensures always { Enough }
 {
-    forty_for_each(pairs)
+    40 * u32::from(pairs)
 }
 
 // Each row of numbers comes from equally many rows of values: each remainder comes from equally many values that are not passed over; each row of

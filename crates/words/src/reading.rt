@@ -56,6 +56,7 @@ fn read_ask(bytes: &[u8]) -> Result<Word, Fault>
     ))
 }
 
+// The chance is copied, since no proof is made of a value whose array is matched out of lent bytes, as `chance @ ..` in `*bytes`.
 fn opening_in(bytes: &[u8; 35]) -> Opening
     ensures { opening_of result ≡ opening_at bytes.now 0 }
 {
@@ -97,9 +98,10 @@ fn read_end(bytes: &[u8]) -> Result<Word, Fault>
     Ok(Word::End(u32::from_be_bytes([*a, *b, *c, *d]), *content == 1))
 }
 
-// Stands apart from `read_word` so that the law is shown once, and not at each of these returns.
-fn read_by_kind<'a>(task: &Task, bytes: &'a [u8]) -> Result<Word<'a>, Fault>
-    ensures { gives said result ≡ read_word (task_of task.now) bytes.now }
+// The word that these bytes are in a showing of the task, or the first fault.
+pub fn read_word<'a>(task: &Task, bytes: &'a [u8]) -> Result<Word<'a>, Fault>
+    ensures answer { gives said result ≡ read_word (task_of task.now) bytes.now }
+    ensures law { WordLaw (task_of task.now) }
 {
     let [kind, ..] = bytes else {
         return Err(Fault::Shape);
@@ -112,12 +114,4 @@ fn read_by_kind<'a>(task: &Task, bytes: &'a [u8]) -> Result<Word<'a>, Fault>
         Kind::Opened => read_opened(bytes),
         Kind::End => read_end(bytes),
     }
-}
-
-// The word that these bytes are in a showing of the task, or the first fault.
-pub fn read_word<'a>(task: &Task, bytes: &'a [u8]) -> Result<Word<'a>, Fault>
-    ensures answer { gives said result ≡ read_word (task_of task.now) bytes.now }
-    ensures law { WordLaw (task_of task.now) }
-{
-    read_by_kind(task, bytes)
 }
