@@ -15,8 +15,3 @@ pub loop-prohibition-preserved : goal.loop-prohibition-preserved
 loop-prohibition-preserved c =
     let v = c.loop-prohibition.invariant in
     name_more (task_of c.args.task.now) c.args.prohibitions.now _ _ _ v.0 v.1 _ c.loop-prohibition-test.true _ _ c.in-Some.ensures c.in_ok-push.ensures.items
-
-pub returns : goal.returns
-returns c =
-    let v = c.loop-prohibition.invariant in
-    name_all (task_of c.args.task.now) c.args.prohibitions.now _ _ _ v.0 v.1 c.loop-prohibition-test.false

@@ -14,12 +14,6 @@ returns-then-len c =
     let n = c.args.pairs.now.ok.0 in
     inl (refl, omega arith)
 
-pub insert-requires : goal.insert-requires
-insert-requires c =
-    let l = put-within c.args.pair _ _ c.deref.ensures.value c.requires.order _ c.in-Err.ensures.bound c.in-Err.ensures.position in
-    let n = c.args.pairs.now.ok.0 in
-    omega arith
-
 pub returns : goal.returns
 returns c =
     let m = put_made c.args.pair _ _ c.deref.ensures.value c.requires.order _ c.in-Err.ensures.bound c.in-Err.ensures.position in
