@@ -1,9 +1,18 @@
--- A list that is filled; a text of 39 bytes is one block.
-use Rattle.std.proofs.Common.{◌≡◌, ℕ, suc, ◌+◌, ◌-◌, ◌*◌, ◌<◌, List, [], ◌∷◌, ◌++◌, length, get_or, set, replicate, ap, ◌∙◌, arith}
+-- A list that is filled, and the front of a column; a text of 39 bytes is one block.
+use Rattle.std.proofs.Common.{◌≡◌, ℕ, suc, ◌+◌, ◌-◌, ◌*◌, ◌<◌, ◌≤◌, List, [], ◌∷◌, ◌++◌, map, length, get_or, set, take, replicate, sym, ap, ◌∙◌, arith}
 use Rattle.std.proofs.lemmas.List.Edits.{fill_by_more}
-use Rattle.std.proofs.lemmas.List.{get_or_append_left, get_or-append_right, get_or-replicate, length-append}
+use Rattle.std.proofs.lemmas.List.{get_or_append_left, get_or-append_right, get_or-replicate, length-append, take-append-le, take-map}
+use Rattle.sha256.specs.Lane.{column}
 use Rattle.sha256.specs.Sha256.{H0, bytes, zeros, padding, padded, word, compress, output, sha256}
 use Rattle.sha256.proofs.Messages.{one_block}
+use Rattle.lanes.specs.Lane.{lane}
+
+-- the front of a column is that of the values in front
+pub column-front : (xs ys : List (List ℕ)) (n j : ℕ) → n ≤ length xs → take n (column lane (xs ++ ys) j) ≡ take n (column lane xs j)
+unfolding column
+column-front xs ys n j h =
+    let f : List ℕ → ℕ = λ x. lane x j in
+    take-map f n (xs ++ ys) ∙ (ap (map f) (take-append-le n xs ys h) ∙ sym (take-map f n xs))
 
 -- a list whose places are filled one after the other
 pub put-more : {X : Type 0} (f : ℕ → X) (xs : List X) (i : ℕ) (y d : X)

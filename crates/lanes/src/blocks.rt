@@ -4,6 +4,7 @@ ghost use Rattle.sha256.specs.Lane.{column};
 ghost use Rattle.sha256.specs.Sha256.{padded, word as word_of, schedule};
 ghost use Rattle.lanes.specs.Lane.{lane, Sized, WordsAt};
 
+use std::array;
 use std::simd::prelude::*;
 
 // Word t of a text, one of its nine whole words.
@@ -27,22 +28,14 @@ fn whole_words(texts: &[[u8; 39]; 8], t: usize) -> u32x8
     requires { t < 9 }
     ensures { WordsAt texts.now t result }
 {
-    let mut x = [0; 8];
-    for (j, text) in texts.iter().enumerate() {
-        x[j] = word(text, t);
-    }
-    u32x8::from_array(x)
+    u32x8::from_array(array::from_fn(|j| word(&texts[j], t)))
 }
 
 fn last_words(texts: &[[u8; 39]; 8]) -> u32x8
     ensures words { WordsAt texts.now 9 result }
     ensures sized { Sized texts.now }
 {
-    let mut x = [0; 8];
-    for (j, text) in texts.iter().enumerate() {
-        x[j] = last_word(text);
-    }
-    u32x8::from_array(x)
+    u32x8::from_array(array::from_fn(|j| last_word(&texts[j])))
 }
 
 // Word t of each text's block. After word 9 come zeros, and the number of bits.
@@ -58,14 +51,13 @@ fn words(texts: &[[u8; 39]; 8], last: u32x8, t: usize) -> u32x8
     }
 }
 
-// Puts the sixteen words of each text's block before those that are computed of them. By index: what is written
-// through `iter_mut` is not known after the loop.
+// Puts the sixteen words of each text's block before those that are computed of them.
 pub(crate) fn load(texts: &[[u8; 39]; 8], w: &mut [u32x8; 64])
     ensures sized { Sized texts.now }
     ensures words { (j : ℕ) → j < 8 → take 16 (column lane w.new j) ≡ schedule (padded (slice_index_or texts.now j [])) 0 }
 {
     let last = last_words(texts);
-    for t in 0..16 {
-        w[t] = words(texts, last, t);
+    for (t, x) in w[..16].iter_mut().enumerate() {
+        *x = words(texts, last, t);
     }
 }

@@ -8,5 +8,5 @@ use Rattle.lanes.proofs.blocks.load.Given as goal
 
 abbrev pub invariant-loop-t : goal.invariant-loop-t
 invariant-loop-t l =
-    ((j : ℕ) → j < 8 → take l.t (column lane l.w j) ≡ map (word (padded (get_or l.texts j []))) (range_with_len 0 l.t))
-    × (length l.w ≡ 64)
+    ((j : ℕ) → j < 8 → take l.t (column lane l.x-items j) ≡ map (word (padded (get_or l.texts j []))) (range_with_len 0 l.t))
+    × (length l.x-items ≡ 16)
