@@ -4,7 +4,8 @@ use Rattle.std.proofs.lemmas.Bool.{cases_lt}
 use Rattle.std.proofs.lemmas.List.{take_all, take-take, take-append-le}
 use Rattle.paths.specs.Plan.{Task}
 use Rattle.words.specs.Writing.{said_bytes}
-use Rattle.words.specs.Stops.{Stops, next_stop}
+use Rattle.words.specs.Stops.{next_stop}
+use Rattle.words.proofs.StopLaws.{stops}
 use Rattle.line.specs.Wanted.{Wanted, OneWord, Grown}
 
 pub wanted_more : (t : Task) (was after : List ℕ) → Wanted t was → Grown (next_stop t was) was after → Wanted t after
@@ -17,8 +18,9 @@ wanted_more t was after w g j h =
       | inr s ↦ (length was, s, omega (arith, g.short, ap (next_stop t) g.kept))
     ]
 
-pub one_word : (t : Task) → Stops t → OneWord t
-one_word t law w good bs more rest h e =
+pub one_word : (t : Task) → t.trains ≤ 1024 → OneWord t
+one_word t few w good bs more rest h e =
+    let law = stops t few in
     elim (cases_lt (length (said_bytes w)) (length bs)) [
       | inl s ↦
           let n = length (said_bytes w) in
@@ -35,8 +37,9 @@ one_word t law w good bs more rest h e =
       | inr s ↦ s
     ]
 
-pub wanted_few : (t : Task) → Stops t → (bs : List ℕ) → Wanted t bs → length bs ≤ 32775
-wanted_few t law bs h =
+pub wanted_few : (t : Task) → t.trains ≤ 1024 → (bs : List ℕ) → Wanted t bs → length bs ≤ 32775
+wanted_few t few bs h =
+    let law = stops t few in
     elim (cases_lt 32775 (length bs)) [
       | inl s ↦ let p = h 32775 s in absurd (omega (arith, p.1, p.2, law.few (take p.0 bs) (simp length-take (omega (arith, p.1)))))
       | inr s ↦ s

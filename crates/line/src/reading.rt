@@ -70,19 +70,6 @@ fn one_turn<R: BufRead>(
     take_part(reader, stop, word)
 }
 
-// Stands apart from `read_word_from` so that the bound and the law are shown once, and not at each of these returns.
-fn all_turns<R: BufRead>(reader: &mut R, task: &Task, word: &mut Vec<u8>) -> Result<(), LineError>
-    ensures { Wanted (task_of task.now) word.new.items }
-{
-    word.clear();
-    for _turn in 0..TURNS {
-        if one_turn(reader, task, word)?.is_break() {
-            return Ok(());
-        }
-    }
-    Err(LineError::Stream(io::Error::from(ErrorKind::Interrupted)))
-}
-
 // Reads one word, in place of what stood in `word`: to its end, to where it can no longer be good, or to the end of the input.
 pub fn read_word_from<R: BufRead>(
     reader: &mut R,
@@ -93,5 +80,11 @@ pub fn read_word_from<R: BufRead>(
     ensures few { vec_len word.new ≤ 32775 }
     ensures law { OneWord (task_of task.now) }
 {
-    all_turns(reader, task, word)
+    word.clear();
+    for _turn in 0..TURNS {
+        if one_turn(reader, task, word)?.is_break() {
+            return Ok(());
+        }
+    }
+    Err(LineError::Stream(io::Error::from(ErrorKind::Interrupted)))
 }

@@ -1,7 +1,7 @@
 use Rattle.std.proofs.Common.{vec_items}
 use Rattle.tasks.specs.Model.{task_of}
 use Rattle.line.specs.Wanted.{Wanted}
-use Rattle.line.proofs.reading.all_turns.Given as goal
+use Rattle.line.proofs.reading.read_word_from.Given as goal
 
 abbrev pub invariant-loop-turn : goal.invariant-loop-turn
 invariant-loop-turn g l = Wanted (task_of l.task) (vec_items l.word)
