@@ -3,7 +3,7 @@
 
 mod showing;
 
-use command::{Ending, LoadedTask, Problem, Usage, exit_code, load_task, read_arguments};
+use command::{Ending, Problem, Usage, exit_code, load_task, read_arguments};
 use keeping::{Options, Showing};
 use showing::Asker;
 use sides::start_asker;
@@ -27,7 +27,7 @@ fn ask(rt: &HostRuntime) -> Result<Ending, Problem> {
     };
     let task = arguments.need("--task")?;
     let options = Options::read(arguments)?;
-    let LoadedTask { task, .. } = load_task(rt, task)?;
+    let task = load_task(rt, task)?.value;
     let showing = Showing::open(rt, options, enough_rounds(&task))?;
     let awaiting = start_asker(rt.alloc(), task, showing.rounds)?;
     let mut asker = Asker {

@@ -12,29 +12,29 @@ use super::awaiting::Awaiting;
 use super::ready::Ready;
 use super::turning::turn;
 use round::{Outcome, Over};
-use tasks::{Fault, Task};
+use tasks::Fault;
 use words::{Word, read_word};
 
-// Tasks are compared by their bytes.
-fn test_task(task: &Task, own: &[u8], bytes: &[u8]) -> Result<(), Fault>
-    ensures { looks result ≡ and_then (read_word (task_of task.now) bytes.now) (on_task own.now) }
-{
-    let Word::Task(bytes) = read_word(task, bytes)? else {
-        return Err(Fault::NotAwaited);
-    };
-    if bytes != own {
-        return Err(Fault::OtherTask);
-    }
-    Ok(())
-}
-
 impl Awaiting {
+    // Tasks are compared by their bytes.
+    fn test_task(&self, word: &[u8]) -> Result<(), Fault>
+        ensures { looks result ≡ and_then (read_word (task_of self.now.task) word.now) (on_task self.now.own.items) }
+    {
+        let Word::Task(bytes) = read_word(&self.task, word)? else {
+            return Err(Fault::NotAwaited);
+        };
+        if bytes != self.own.as_slice() {
+            return Err(Fault::OtherTask);
+        }
+        Ok(())
+    }
+
     // The first round, or the end after none; another word than the asker's own Task ends all.
     pub fn meet(self, word: &[u8]) -> Result<Ready, Over>
         ensures { leads ready_of result ≡ meet sha256 (awaiting_of self) word.now }
     {
         let digest = book::start(&self.own);
-        test_task(&self.task, &self.own, word).map_err(|fault| Over {
+        self.test_task(word).map_err(|fault| Over {
             outcome: Outcome::TaskFault(fault),
             digest,
         })?;

@@ -12,7 +12,7 @@ use super::drawn::Drawn;
 use super::ready::Ready;
 use lots::draw_question;
 use round::Over;
-use tasks::{Fault, Task};
+use tasks::Fault;
 use words::{Word, ask_bytes, read_word};
 
 impl Ready {
@@ -26,18 +26,18 @@ impl Ready {
             pair: question.what,
         })
     }
-}
 
-fn test_boxes(task: &Task, round: u32, bytes: &[u8]) -> Result<(), Fault>
-    ensures { looks result ≡ and_then (read_word (task_of task.now) bytes.now) (on_boxes round) }
-{
-    let Word::Boxes(said, _) = read_word(task, bytes)? else {
-        return Err(Fault::NotAwaited);
-    };
-    if said != round {
-        return Err(Fault::NotAwaited);
+    fn test_boxes(&self, word: &[u8]) -> Result<(), Fault>
+        ensures { looks result ≡ and_then (read_word (task_of self.now.task) word.now) (on_boxes self.now.round) }
+    {
+        let Word::Boxes(said, _) = read_word(&self.task, word)? else {
+            return Err(Fault::NotAwaited);
+        };
+        if said != self.round {
+            return Err(Fault::NotAwaited);
+        }
+        Ok(())
     }
-    Ok(())
 }
 
 impl Drawn {
@@ -46,7 +46,7 @@ impl Drawn {
         ensures { leads asked_of result ≡ question (drawn_of self) word.items }
     {
         let ready = &self.ready;
-        test_boxes(&ready.task, ready.round, &word).map_err(|fault| ready.stops(fault))?;
+        ready.test_boxes(&word).map_err(|fault| ready.stops(fault))?;
         let ask = ask_bytes(ready.round, self.pair);
         Ok(Asked {
             drawn: self,

@@ -11,45 +11,49 @@ ghost use Rattle.asking.specs.Conduct.{Exact};
 ghost use Rattle.asking.specs.Model.{ready_of, asked_of, tested_of, counted};
 
 use super::asked::Asked;
+use super::drawn::Drawn;
 use super::ready::Ready;
 use super::tested::Tested;
 use super::turning::turn;
 use round::{Outcome, Over, test_opened};
-use tasks::{Fault, Task};
+use tasks::Fault;
 use words::{Word, behind_head, end_bytes, read_word};
 
-fn is_opened_of(task: &Task, round: u32, bytes: &[u8]) -> bool
-    ensures { result ≡ is_opened_of round (read_word (task_of task.now) bytes.now) }
-{
-    matches!(read_word(task, bytes), Ok(Word::Opened(said, _, _)) if said == round)
-}
-
-// The bytes of an Opened of this round, whether it is good or not.
-fn opened_of(task: &Task, round: u32, bytes: &[u8]) -> Option<[u8; 75]>
-    ensures { counted result ≡ (if is_opened_of round (read_word (task_of task.now) bytes.now) then bytes.now else []) }
-{
-    if !is_opened_of(task, round, bytes) {
-        return None;
+impl Ready {
+    fn is_opened(&self, word: &[u8]) -> bool
+        ensures { result ≡ is_opened_of self.now.round (read_word (task_of self.now.task) word.now) }
+    {
+        matches!(read_word(&self.task, word), Ok(Word::Opened(said, _, _)) if said == self.round)
     }
-    bytes.try_into().ok()
-}
 
-fn test_answer(task: &Task, round: u32, pair: u16, boxes: &[u8], bytes: &[u8]) -> Result<(), Fault>
-    ensures { looks result ≡ and_then (read_word (task_of task.now) bytes.now) (test_opened sha256 (task_of task.now) round pair (drop 7 boxes.now)) }
-{
-    let word = read_word(task, bytes)?;
-    test_opened(task, round, pair, behind_head(boxes), word)
+    // The bytes of an Opened of this round, whether it is good or not.
+    fn opened_in(&self, word: &[u8]) -> Option<[u8; 75]>
+        ensures { counted result ≡ (if is_opened_of self.now.round (read_word (task_of self.now.task) word.now) then word.now else []) }
+    {
+        if !self.is_opened(word) {
+            return None;
+        }
+        word.try_into().ok()
+    }
 }
 
 impl Asked {
+    fn test_answer(&self, word: &[u8]) -> Result<(), Fault>
+        ensures { looks result ≡ and_then (read_word (task_of self.now.drawn.ready.task) word.now) (test_opened sha256 (task_of self.now.drawn.ready.task) self.now.drawn.ready.round self.now.drawn.pair (drop 7 self.now.boxes.items)) }
+    {
+        let Drawn { ready, pair } = &self.drawn;
+        let word = read_word(&ready.task, word)?;
+        test_opened(&ready.task, ready.round, *pair, behind_head(&self.boxes), word)
+    }
+
     // Whatever came in answer, no bytes where the input ended, there is an End to send.
     pub fn test(self, word: &[u8]) -> Tested
         ensures state { tested_of result ≡ test sha256 (asked_of self) word.now }
         ensures exact { Exact sha256 (task_of self.drawn.ready.task) }
     {
         let ready = &self.drawn.ready;
-        let test = test_answer(&ready.task, ready.round, self.drawn.pair, &self.boxes, word);
-        let opened = opened_of(&ready.task, ready.round, word);
+        let test = self.test_answer(word);
+        let opened = ready.opened_in(word);
         let end = end_bytes(ready.round, test.is_ok());
         Tested {
             asked: self,

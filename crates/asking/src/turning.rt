@@ -7,19 +7,14 @@ ghost use Rattle.asking.specs.Asking.{turn};
 ghost use Rattle.asking.specs.Model.{ready_of};
 
 use super::ready::Ready;
-use round::{Outcome, Over};
+use round::{Outcome, Over, go_on};
 use tasks::{Fault, Rounds, Task};
 
 // This round, or the end after the last one.
 pub(super) fn turn(task: Task, rounds: Rounds, round: u32, digest: [u8; 32]) -> Result<Ready, Over>
     ensures { leads ready_of result ≡ turn record { task = task_of task; rounds = rounds.count; round = round; digest = digest } }
 {
-    if round >= rounds.count {
-        return Err(Over {
-            outcome: Outcome::Content(rounds.count),
-            digest,
-        });
-    }
+    go_on(rounds, round, digest)?;
     Ok(Ready {
         task,
         rounds,

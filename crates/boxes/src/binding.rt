@@ -8,6 +8,7 @@ ghost use Rattle.boxes.specs.Model.{opening_of, two_of};
 use super::closing::text;
 use super::opening::{Opening, opens};
 
+// A struct of its own, as two paths and two trains have: a `Two<[u8; 39]>` would not say of what.
 #[derive(Clone, Copy, Debug, PartialEq, Eq)]
 pub struct TwoTexts {
     pub first: [u8; 39],

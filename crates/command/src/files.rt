@@ -3,7 +3,7 @@ ghost use Rattle.std.specs.Prelude.{◌≡◌, true, IfOk, IfErr, None, Ok};
 ghost use Rattle.std.specs.Fn.{FnOnceReturnsAt};
 ghost use Rattle.paths.specs.Plan.{fits};
 ghost use Rattle.tasks.specs.Model.{task_of, plan_of};
-ghost use Rattle.tasks.specs.Writing.{task_bytes, is_plan};
+ghost use Rattle.tasks.specs.Writing.{task_bytes};
 ghost use Rattle.command.specs.Files.{names, told_pair, Fails};
 
 use super::problem::Problem;
@@ -17,19 +17,12 @@ const TASK_BYTES: u64 = 16391;
 
 const PLAN_BYTES: u64 = 1028;
 
-// A task and the bytes that it was read from.
-#[derive(Drop)]
-pub struct LoadedTask {
-    pub task: Task,
-    pub bytes: Vec<u8>,
-}
-
 // What the bytes of a file were read as, and the file's name.
 #[derive(Drop)]
-struct Loaded<T> {
-    value: T,
-    bytes: Vec<u8>,
-    name: String,
+pub struct Loaded<T> {
+    pub value: T,
+    pub bytes: Vec<u8>,
+    pub name: String,
 }
 
 fn read_at_most(rt: &HostRuntime, name: &str, most: u64) -> io::Result<Vec<u8>> {
@@ -73,18 +66,13 @@ fn load<T, F: FnOnce(&[u8]) -> Result<T, Fault>>(
 }
 
 // The task in a file, or the first fault.
-pub fn load_task(rt: &HostRuntime, name: String) -> Result<LoadedTask, Problem>
-    ensures bytes { IfOk result (λ l. task_bytes (task_of l.task) ≡ l.bytes.items) }
+pub fn load_task(rt: &HostRuntime, name: String) -> Result<Loaded<Task>, Problem>
+    ensures bytes { IfOk result (λ l. task_bytes (task_of l.value) ≡ l.bytes.items) }
+    ensures name { IfOk result (λ l. l.name ≡ name) }
     ensures told { IfErr result (λ p. names p name) }
 {
     let heap = rt.alloc();
-    let Loaded { value, bytes, .. } = load(
-        rt,
-        name,
-        TASK_BYTES,
-        move |bytes| read_task(heap, bytes),
-    )?;
-    Ok(LoadedTask { task: value, bytes })
+    load(rt, name, TASK_BYTES, move |bytes| read_task(heap, bytes))
 }
 
 // The plan in a file, which must fit the task. Where it doesn't, the first pair that it fails is told.

@@ -33,10 +33,8 @@ impl Input {
         ensures count { IfOk result (λ n. vec_len bytes.new ≡ vec_len bytes.old + n) }
         ensures front { StartsWith bytes.new.items bytes.old.items }
     {
-        match self.file.by_ref().take(count).read_to_end(bytes) {
-            Ok(size) => Ok(size),
-            Err(error) => Err(self.told(Problem::Stream(error))),
-        }
+        let size = self.file.by_ref().take(count).read_to_end(bytes);
+        size.map_err(|error| self.told(Problem::Stream(error)))
     }
 
     // A problem of a stream, told as one of this file.

@@ -7,7 +7,7 @@ mod problem;
 mod program;
 mod rounds;
 
-pub use files::{LoadedTask, load_fitting_plan, load_task};
+pub use files::{Loaded, load_fitting_plan, load_task};
 pub use input::Input;
 pub use problem::{Ending, Problem, conclude, finish};
 pub use program::{Usage, exit_code, read_arguments};

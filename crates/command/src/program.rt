@@ -28,7 +28,8 @@ pub fn read_arguments(rt: &HostRuntime, usage: Usage) -> Result<Option<Arguments
     Ok(Some(arguments))
 }
 
-// Tells a problem, where there is one, and gives the status to end with: 0 exactly where all is well.
+// Tells a problem, where there is one, and gives the status to end with: 0 exactly where all is well. Each `main` hands in what its own step answered, since no
+// function can take that step: its answer holds a problem with a text that is lent, and the borrow checker asks for a name of how long.
 pub fn exit_code(rt: &HostRuntime, usage: Usage, outcome: Result<Ending, Problem>) -> ExitCode
     ensures { exit_status result ≡ status_of outcome }
 {

@@ -73,6 +73,7 @@ fn answered(asked: Asked, word: Vec<u8>, answer: Answer) -> Heard
     }
 }
 
+// One match on what is awaited, and no table of steps, since each case has data of its own.
 fn awaited(task: &Task, round: u32, awaits: Awaits, word: Vec<u8>) -> Result<Heard, Fault>
     ensures { gives heard_of result ≡ awaited (task_of task.now) round (awaits_of awaits) word.items }
 {

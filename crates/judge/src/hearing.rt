@@ -21,6 +21,7 @@ impl Hearing {
 
     // All words, to the end of the file or to where they can't be rounds.
     pub fn all(&mut self, mut judge: Judge, digest: [u8; 32]) -> Result<Verdict, Problem> {
+        // A bound that no file reaches, since a loop here has to end.
         for _ in 0..u64::MAX {
             let word = self.word(&judge.task)?;
             if word.is_empty() {

@@ -7,7 +7,7 @@ mod telling;
 
 use arguments::{Arguments, Wrong};
 use command::{
-    Ending, Input, LoadedTask, Problem, Usage, exit_code, load_fitting_plan, load_task,
+    Ending, Input, Problem, Usage, exit_code, load_fitting_plan, load_task,
     read_arguments,
 };
 use digest::digest_in;
@@ -29,8 +29,9 @@ const USAGE: Usage = Usage {
   --help         print this and do nothing else",
 };
 
+// The files of what the planner hands over.
 #[derive(Drop)]
-struct HandedOver {
+struct Names {
     plan: String,
     drawn: String,
 }
@@ -40,14 +41,14 @@ struct Options {
     task: String,
     words: String,
     digest: String,
-    handed_over: Option<HandedOver>,
+    handed_over: Option<Names>,
 }
 
 // The plan and the drawn bytes come together, or not at all.
-fn read_handed_over(arguments: &mut Arguments) -> Result<Option<HandedOver>, Wrong> {
+fn read_handed_over(arguments: &mut Arguments) -> Result<Option<Names>, Wrong> {
     match (arguments.take("--plan"), arguments.take("--drawn")) {
         (None, None) => Ok(None),
-        (Some(plan), Some(drawn)) => Ok(Some(HandedOver { plan, drawn })),
+        (Some(plan), Some(drawn)) => Ok(Some(Names { plan, drawn })),
         (Some(_), None) => Err(Wrong::Missing("--drawn")),
         (None, Some(_)) => Err(Wrong::Missing("--plan")),
     }
@@ -64,14 +65,15 @@ fn read_options(mut arguments: Arguments) -> Result<Options, Wrong> {
     Ok(options)
 }
 
-// What the planner handed over: its plan, or the fault of the plan, which is told in its place, after all that the words say; and its drawn bytes.
+// The plan, or its fault, which is told in its place, after all that the words say; and the drawn bytes.
 #[derive(Drop)]
-struct Handed {
+struct HandedOver {
     plan: Result<Plan, Problem>,
     drawn: Drawn,
 }
 
-// The judge doesn't tell the pair that a plan fails.
+// A fault of the plan is told late, and any other problem at once: two errors, each in its own place of the type. The judge doesn't tell the pair that a plan
+// fails.
 fn load_plan(
     rt: &HostRuntime,
     task: &Task,
@@ -85,15 +87,10 @@ fn load_plan(
     }
 }
 
-fn open_handed_over(
-    rt: &HostRuntime,
-    task: &Task,
-    handed_over: HandedOver,
-) -> Result<Handed, Problem> {
-    let HandedOver { plan, drawn } = handed_over;
-    Ok(Handed {
-        plan: load_plan(rt, task, plan)?,
-        drawn: Drawn::open(rt, drawn)?,
+fn open_handed_over(rt: &HostRuntime, task: &Task, names: Names) -> Result<HandedOver, Problem> {
+    Ok(HandedOver {
+        plan: load_plan(rt, task, names.plan)?,
+        drawn: Drawn::open(rt, names.drawn)?,
     })
 }
 
@@ -107,22 +104,19 @@ fn judge(rt: &HostRuntime) -> Result<Ending, Problem> {
         digest,
         handed_over,
     } = read_options(arguments)?;
-    let LoadedTask { task, .. } = load_task(rt, task)?;
+    let task = load_task(rt, task)?.value;
     let Some(last) = digest_in(digest.as_str()) else {
         return Err(Problem::Argument(Wrong::Word(digest)));
     };
     let default = default_rounds(task.pairs.len() as u16);
     let words = Input::open(rt, words)?;
-    let handed = match handed_over {
-        Some(names) => Some(open_handed_over(rt, &task, names)?),
-        None => None,
-    };
-    let (plan, faulty, drawn) = match handed {
+    let handed_over = handed_over
+        .map(|names| open_handed_over(rt, &task, names))
+        .transpose()?;
+    let (plan, faulty, drawn) = match handed_over {
         None => (None, None, None),
-        Some(Handed { plan, drawn }) => match plan {
-            Ok(plan) => (Some(plan), None, Some(drawn)),
-            Err(problem) => (None, Some(problem), Some(drawn)),
-        },
+        Some(HandedOver { plan: Ok(plan), drawn }) => (Some(plan), None, Some(drawn)),
+        Some(HandedOver { plan: Err(problem), drawn }) => (None, Some(problem), Some(drawn)),
     };
     let judge = Judge::start(rt.alloc(), task, plan)?;
     let verdict = Hearing::new(rt.alloc(), words, drawn).all(judge, last)?;

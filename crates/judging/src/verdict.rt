@@ -2,7 +2,7 @@
 use tasks::Fault;
 
 // Whether the asker was content: in all rounds; not in this round, and what the test of its opening gives; or in this round, but the opening has this fault.
-#[derive(Clone, Copy)]
+#[derive(Clone, Copy, Debug, PartialEq, Eq)]
 pub enum Content {
     All,
     Not(u32, Result<(), Fault>),
@@ -21,7 +21,7 @@ pub enum Redrawn {
 
 // Words that can't be cut into rounds, with the fault and its round; words that don't fit the digest, of which no more is told; or what they say, and how
 // many rounds they are.
-#[derive(Clone, Copy)]
+#[derive(Clone, Copy, Debug, PartialEq, Eq)]
 pub enum Verdict {
     BadWords(Fault, u32),
     OtherWords,

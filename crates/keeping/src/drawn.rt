@@ -44,7 +44,7 @@ impl Drawn {
     }
 
     // A round takes so many bytes at least; `leaves` says how many of these bytes it leaves over, and nothing where they are too few. Where values are passed
-    // over, as many bytes again are read as there are.
+    // over, as many bytes again are read as there are: after 64 times no memory would hold them.
     fn fill<F: Fn(&[u8]) -> Option<usize>>(
         &mut self,
         least: usize,

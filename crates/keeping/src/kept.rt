@@ -36,9 +36,9 @@ impl Kept {
     }
 
     fn told(&self, res: io::Result<()>) -> Result<(), Problem> {
-        match res {
-            Ok(()) => Ok(()),
-            Err(error) => Err(Problem::Written(self.name.clone()?, error)),
-        }
+        let Err(error) = res else {
+            return Ok(());
+        };
+        Err(Problem::Written(self.name.clone()?, error))
     }
 }

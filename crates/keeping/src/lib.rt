@@ -1,4 +1,5 @@
-// What the programs of both sides share: the options, the line, the drawn bytes, the number of rounds, the book and the transcript, the progress, the rounds in turn, and how the end is told.
+// What the programs of both sides share: the options, the line, the number of rounds, the book and the transcript, the progress, the rounds in turn, and how the end
+// is told. And the drawn bytes, which the judge reads too.
 #![tactic(auto)]
 
 mod drawn;

@@ -1,6 +1,5 @@
 // The options that both sides have.
-ghost use Rattle.std.specs.Prelude.{IfOk, Some, codes};
-ghost use Rattle.arguments.specs.Words.{Taken};
+ghost use Rattle.std.specs.Prelude.{IfOk, codes};
 ghost use Rattle.keeping.specs.Options.{TakenFrom};
 
 use arguments::{Arguments, Wrong};

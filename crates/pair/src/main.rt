@@ -3,7 +3,7 @@
 
 use arguments::{Arguments, Wrong};
 use command::{
-    Ending, Input, LoadedTask, Problem, Usage, exit_code, load_fitting_plan, load_task,
+    Ending, Input, Problem, Usage, exit_code, load_fitting_plan, load_task,
     read_arguments,
 };
 use pairing::{Plans, ask_in};
@@ -130,7 +130,7 @@ fn pair(rt: &HostRuntime) -> Result<Ending, Problem> {
         coins,
         asked,
     } = read_options(arguments)?;
-    let LoadedTask { task, .. } = load_task(rt, task)?;
+    let task = load_task(rt, task)?.value;
     let first = load_fitting_plan(rt, &task, first)?;
     let second = load_fitting_plan(rt, &task, second)?;
     let plans = Plans::new(task, first, second)?;

@@ -1,5 +1,5 @@
 // Coins of the first plan made into coins of the second that show the same.
-ghost use Rattle.std.specs.Prelude.{◌≡◌, ◌≤◌, ◌++◌, length, drop, OnOk};
+ghost use Rattle.std.specs.Prelude.{◌≡◌, OnOk};
 ghost use Rattle.paths.specs.Order.{order_of};
 ghost use Rattle.tasks.specs.Reading.{gives};
 ghost use Rattle.pairing.specs.Coins.{order_for, order_in, coin_for, left_by, Goes, Promised};

@@ -17,11 +17,13 @@ mod partners;
 pub use order::Order;
 pub use partners::{Partners, TwoPaths};
 
+pub const MOST_PAIRS: u16 = 4096;
+
 // The most pairs that a task may have.
 pub fn most_pairs() -> u32
     ensures { result ≡ 4096 }
 {
-    4096
+    u32::from(MOST_PAIRS)
 }
 
 // The main promise.

@@ -1,5 +1,5 @@
 // Paths and their partners, and the order in which each path has its partner's number.
-ghost use Rattle.std.specs.Prelude.{◌≡◌, ◌<◌, ◌≤◌, true, length, take};
+ghost use Rattle.std.specs.Prelude.{◌≡◌, ◌<◌, ◌≤◌, length, take};
 ghost use Rattle.std.specs.Option.{option_map};
 ghost use Rattle.paths.specs.Order.{order_of};
 ghost use Rattle.paths.specs.Pairing.{rank, nth};

@@ -4,7 +4,7 @@
 mod showing;
 
 use command::{
-    Ending, LoadedTask, Problem, Usage, exit_code, load_fitting_plan, load_task, read_arguments,
+    Ending, Problem, Usage, exit_code, load_fitting_plan, load_task, read_arguments,
 };
 use drawing::default_rounds;
 use keeping::{Options, Showing};
@@ -31,7 +31,7 @@ fn show(rt: &HostRuntime) -> Result<Ending, Problem> {
     let task = arguments.need("--task")?;
     let plan = arguments.need("--plan")?;
     let options = Options::read(arguments)?;
-    let LoadedTask { task, .. } = load_task(rt, task)?;
+    let task = load_task(rt, task)?.value;
     let plan = load_fitting_plan(rt, &task, plan)?;
     let showing = Showing::open(rt, options, default_rounds(task.pairs.len() as u16))?;
     let begun = start_planner(rt.alloc(), task, plan, showing.rounds)?;

@@ -12,7 +12,7 @@ ghost use Rattle.planning.specs.Conduct.{Conduct};
 use super::ready::Ready;
 use book;
 use fitting::test_plan;
-use round::{Outcome, Over};
+use round::{Over, go_on};
 use std::alloc::Global;
 use tasks::{Fault, Plan, Rounds, Task, write_task};
 
@@ -33,11 +33,8 @@ fn begin(heap: Global, task: Task, plan: Plan, rounds: Rounds) -> Result<Begun, 
     let boxes = Vec::from_elem(heap, 0, 7 + size)?;
     let chances = Vec::from_elem(heap, 0, size)?;
     let digest = book::start(&word);
-    if rounds.count == 0 {
-        let next = Err(Over {
-            outcome: Outcome::Content(0),
-            digest,
-        });
+    if let Err(over) = go_on(rounds, 0, digest) {
+        let next = Err(over);
         return Ok(Begun { word, next });
     }
     let next = Ok(Ready {

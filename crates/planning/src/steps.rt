@@ -19,7 +19,7 @@ use super::opened::Opened;
 use super::ready::Ready;
 use book::next;
 use lots::{Lot, draw_lot};
-use round::{Outcome, Over, opened_word, write_boxes};
+use round::{Outcome, Over, go_on, opened_word, write_boxes};
 use tasks::Fault;
 
 impl Ready {
@@ -107,12 +107,7 @@ fn next_round(mut ready: Ready, digest: [u8; 32]) -> Result<Ready, Over>
     ensures { leads ready_of result ≡ turn (record { task = task_of ready.task; plan = plan_of ready.plan; rounds = ready.rounds.count; round = ready.round + 1; digest = digest }) }
 {
     let round = ready.round + 1;
-    if round >= ready.rounds.count {
-        return Err(Over {
-            outcome: Outcome::Content(ready.rounds.count),
-            digest,
-        });
-    }
+    go_on(ready.rounds, round, digest)?;
     ready.round = round;
     ready.digest = digest;
     Ok(ready)

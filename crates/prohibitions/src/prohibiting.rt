@@ -89,10 +89,7 @@ fn add_prohibited(
     ensures { Prohibiting (task_of task.now) prohibitions.now more.old.items more.new.items result }
 {
     for prohibition in prohibitions {
-        let Some(pair) = prohibited(task, *prohibition) else {
-            return Err(Fault::Range);
-        };
-        more.push(pair)?;
+        more.push(prohibited(task, *prohibition).ok_or(Fault::Range)?)?;
     }
     Ok(())
 }

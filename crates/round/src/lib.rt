@@ -8,5 +8,5 @@ mod testing;
 
 pub use closing::write_boxes;
 pub use opening::opened_word;
-pub use over::{Outcome, Over};
+pub use over::{Outcome, Over, go_on};
 pub use testing::test_opened;

@@ -1,8 +1,11 @@
 // How a showing ends for a side.
-use tasks::Fault;
+ghost use Rattle.std.specs.Prelude.{◌≡◌, ◌<◌, ◌≤◌, OnOk, IfErr};
+ghost use Rattle.round.specs.Over.{over_of, content};
+
+use tasks::{Fault, Rounds};
 
 // Content in all of so many rounds; not content in this round; a fault in this round; or a fault of the Task, before any round.
-#[derive(Clone, Copy)]
+#[derive(Clone, Copy, Debug, PartialEq, Eq)]
 pub enum Outcome {
     Content(u32),
     NotContent(u32),
@@ -11,8 +14,22 @@ pub enum Outcome {
 }
 
 // The outcome, and the digest of the book's last closed round. Nothing can be sent from here.
-#[derive(Clone, Copy)]
+#[derive(Clone, Copy, Debug, PartialEq, Eq)]
 pub struct Over {
     pub outcome: Outcome,
     pub digest: [u8; 32],
+}
+
+// Whether this is one of so many rounds, or else the end after the last.
+pub fn go_on(rounds: Rounds, round: u32, digest: [u8; 32]) -> Result<(), Over>
+    ensures on { OnOk result (round < rounds.count) }
+    ensures last { IfErr result (λ over. (rounds.count ≤ round) × (over_of over ≡ record { outcome = content rounds.count; digest = digest })) }
+{
+    if round < rounds.count {
+        return Ok(());
+    }
+    Err(Over {
+        outcome: Outcome::Content(rounds.count),
+        digest,
+    })
 }

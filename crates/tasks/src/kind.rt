@@ -6,12 +6,12 @@ use super::fault::Fault;
 
 #[derive(Clone, Copy, Debug, PartialEq, Eq)]
 pub enum Kind {
-    Task,
-    Plan,
-    Boxes,
-    Ask,
-    Opened,
-    End,
+    Task = 1,
+    Plan = 2,
+    Boxes = 3,
+    Ask = 4,
+    Opened = 5,
+    End = 6,
 }
 
 impl Kind {
@@ -19,18 +19,11 @@ impl Kind {
     pub fn byte(self) -> u8
         ensures { result ≡ kind_byte self }
     {
-        match self {
-            Kind::Task => 1,
-            Kind::Plan => 2,
-            Kind::Boxes => 3,
-            Kind::Ask => 4,
-            Kind::Opened => 5,
-            Kind::End => 6,
-        }
+        self as u8
     }
 }
 
-// A byte that is no kind's is fault 1. Both tables are written out, as the definition is.
+// A byte that is no kind's is fault 1.
 impl TryFrom<u8> for Kind {
     type Error = Fault;
 

@@ -18,5 +18,6 @@ pub use pair::Pair;
 pub use plan::Plan;
 pub use reading::{Head, check_plan, check_task, read_head, read_plan, read_task};
 pub use rounds::{MOST_ROUNDS, Rounds};
-pub use task::{MOST_PAIRS, MOST_PATHS, MOST_TRAINS, Task};
+pub use paths::MOST_PAIRS;
+pub use task::{MOST_PATHS, MOST_TRAINS, Task};
 pub use writing::{write_plan, write_task};

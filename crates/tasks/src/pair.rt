@@ -3,7 +3,7 @@ ghost use Rattle.std.specs.Prelude.{◌≡◌};
 ghost use Rattle.tasks.specs.Pair.{pair_of};
 ghost use Rattle.tasks.specs.Task.{before};
 
-// Ordered by the first train, then by the second.
+// Ordered by the first train, then by the second. A struct of its own, since two paths or two texts have no such order.
 #[derive(Clone, Copy, Debug, PartialEq, Eq, PartialOrd, Ord)]
 pub struct Pair {
     pub first: u16,

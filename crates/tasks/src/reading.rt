@@ -1,5 +1,5 @@
 // Tasks and plans read from bytes. All is looked at before anything is kept, so that each fault is told by its number even where memory is wanting.
-ghost use Rattle.std.specs.Prelude.{◌≡◌, ℕ, ◌+◌, ◌*◌, ◌/◌, ◌≤◌, map, length, drop, IfOk};
+ghost use Rattle.std.specs.Prelude.{◌≡◌, ◌*◌, ◌/◌, map, length, drop, IfOk};
 ghost use Rattle.tasks.specs.Model.{task_of, plan_of};
 ghost use Rattle.tasks.specs.Pair.{pair_of};
 ghost use Rattle.tasks.specs.Head.{head_of};
@@ -11,7 +11,8 @@ use super::fault::Fault;
 use super::kind::Kind;
 use super::pair::Pair;
 use super::plan::Plan;
-use super::task::{MOST_PAIRS, MOST_PATHS, MOST_TRAINS, Task};
+use super::task::{MOST_PATHS, MOST_TRAINS, Task};
+use paths::MOST_PAIRS;
 use std::alloc::{AllocError, Global};
 
 // The numbers before the pairs of a task.

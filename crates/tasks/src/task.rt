@@ -9,8 +9,6 @@ pub const MOST_TRAINS: u16 = 1024;
 
 pub const MOST_PATHS: u8 = 64;
 
-pub const MOST_PAIRS: u16 = 4096;
-
 // The ghost fields are what each task guarantees: its numbers are in their ranges, and its pairs stand in strictly rising order, the lower train
 // first, and name trains that are there.
 #[derive(Drop)]

@@ -45,7 +45,7 @@ pub fn write_task(heap: Global, task: &Task) -> Result<Vec<u8>, Fault>
     Ok(bytes)
 }
 
-// The bytes of a plan. It is refused for want of memory alone.
+// The bytes of a plan. It is refused for want of memory alone. `words` writes the same of any paths into memory that is lent: the two share no step.
 pub fn write_plan(heap: Global, plan: &Plan) -> Result<Vec<u8>, Fault>
     ensures { MatchResult result (λ v. v.items ≡ plan_bytes (plan_of plan.now)) (λ f. f ≡ Memory) }
 {

@@ -1,0 +1,9 @@
+use Rattle.std.proofs.Common.{sym, rules}
+use Rattle.tasks.specs.Model.{task_of}
+use Rattle.asking.proofs.Answered.{opened-long}
+use Rattle.asking.proofs.ready.Ready.opened_in.Goals as goal
+
+pub returns : goal.returns
+returns c =
+    let long = opened-long (task_of c.args.self.now.task) c.args.self.now.round c.args.word.now (sym c.if-not-is_opened.ensures) in
+    search rules
