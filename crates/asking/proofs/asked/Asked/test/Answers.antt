@@ -1,12 +1,8 @@
-use Rattle.std.proofs.Common.{rules}
 use Rattle.sha256.specs.Sha256.{sha256}
 use Rattle.tasks.specs.Model.{task_of}
 use Rattle.asking.proofs.Answered.{sound_of}
 use Rattle.asking.proofs.Refusals.{exact}
 use Rattle.asking.proofs.asked.Asked.test.Goals as goal
-
-pub returns-clause-state : goal.returns-clause-state
-returns-clause-state c = let e = rw c.deref.ensures.value at c.test_answer-test.ensures in search rules
 
 pub returns-clause-exact : goal.returns-clause-exact
 returns-clause-exact c = let task = c.args.self.drawn.ready.task in exact sha256 (task_of task) (sound_of task)

@@ -8,7 +8,7 @@ unfolding after
 returns-in_err-map_err c =
     let own = c.args.self.own_bytes in
     let d = c.start-digest.ensures.value ∙ ap sha256 (c.deref.ensures.value ∙ own) in
-    let e = rw (c.deref-2.ensures.value ∙ own) at c.test_task.ensures in
+    let e = rw own at c.test_task.ensures in
     search rules
 
 pub returns : goal.returns
@@ -16,5 +16,5 @@ unfolding after
 returns c =
     let own = c.args.self.own_bytes in
     let d = c.start-digest.ensures.value ∙ ap sha256 (c.deref.ensures.value ∙ own) in
-    let e = rw (c.deref-2.ensures.value ∙ own) at c.test_task.ensures in
+    let e = rw own at c.test_task.ensures in
     search rules
