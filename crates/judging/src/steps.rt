@@ -1,7 +1,6 @@
 // The judge's steps.
-ghost use Rattle.std.specs.Prelude.{◌≡◌, ◌^◌, ◌<◌, true, MatchResult};
+ghost use Rattle.std.specs.Prelude.{◌≡◌, ◌^◌, ◌<◌, true, IfOk};
 ghost use Rattle.sha256.specs.Sha256.{sha256};
-ghost use Rattle.tasks.specs.declared.fault.Fault.TheVariants.{Memory};
 ghost use Rattle.tasks.specs.Model.{task_of};
 ghost use Rattle.tasks.specs.Reading.{Meets, looks};
 ghost use Rattle.book.specs.Chain.{next_digest};
@@ -23,7 +22,7 @@ use super::verdict::{Content, Redrawn, Verdict};
 use book;
 use cutting::{Awaits, Heard, Round, hear};
 use fitting::test_plan;
-use std::alloc::Global;
+use std::alloc::{AllocError, Global};
 use std::mem;
 use tasks::{Fault, Plan, Task, write_task};
 
@@ -42,10 +41,10 @@ fn nothing_yet(plan: &Option<Plan>) -> Redrawn
     }
 }
 
-// The judge before the first word. It is refused for want of memory alone.
-fn begin(heap: Global, task: Task, plan: Option<Plan>) -> Result<Judge, Fault>
+// The judge before the first word.
+fn begin(heap: Global, task: Task, plan: Option<Plan>) -> Result<Judge, AllocError>
     requires { fits_if_any (task_of task) (plan_in plan) ≡ true }
-    ensures { MatchResult result (λ s. judge_of s ≡ begin sha256 (task_of task) (plan_in plan)) (λ f. f ≡ Memory) }
+    ensures { IfOk result (λ s. judge_of s ≡ begin sha256 (task_of task) (plan_in plan)) }
 {
     let word = write_task(heap, &task)?;
     let memory = Vec::from_elem(heap, 0, 7 + 32 * task.trains as usize)?;
@@ -131,7 +130,7 @@ impl Judge {
         ensures { Meets judge_of result (start sha256 (task_of task) (plan_in plan)) }
     {
         test_if_any(&task, &plan)?;
-        begin(heap, task, plan)
+        Ok(begin(heap, task, plan)?)
     }
 
     // The next word, with the drawn bytes for its round, if they are handed over: those of the rounds before it left out. Or the verdict, where the words can't be

@@ -1,8 +1,7 @@
 // How the planner begins.
-ghost use Rattle.std.specs.Prelude.{◌≡◌, ℕ, true, List, MatchResult};
+ghost use Rattle.std.specs.Prelude.{◌≡◌, ℕ, true, List, IfOk};
 ghost use Rattle.sha256.specs.Sha256.{sha256};
 ghost use Rattle.paths.specs.Plan.{fits};
-ghost use Rattle.tasks.specs.declared.fault.Fault.TheVariants.{Memory};
 ghost use Rattle.tasks.specs.Model.{task_of, plan_of};
 ghost use Rattle.tasks.specs.Reading.{Meets};
 ghost use Rattle.planning.specs.Model.{begun_of};
@@ -13,7 +12,7 @@ use super::ready::Ready;
 use book;
 use fitting::test_plan;
 use round::{Over, go_on};
-use std::alloc::Global;
+use std::alloc::{AllocError, Global};
 use tasks::{Fault, Plan, Rounds, Task, write_task};
 
 // The Task word, which is sent first, and the first round; or the end, where there are no rounds.
@@ -23,10 +22,10 @@ pub struct Begun {
     pub next: Result<Ready, Over>,
 }
 
-// A showing of a plan that fits: the first round, or the end, where there are no rounds. It is refused for want of memory alone.
-fn begin(heap: Global, task: Task, plan: Plan, rounds: Rounds) -> Result<Begun, Fault>
+// A showing of a plan that fits: the first round, or the end, where there are no rounds.
+fn begin(heap: Global, task: Task, plan: Plan, rounds: Rounds) -> Result<Begun, AllocError>
     requires { fits (task_of task) (plan_of plan) ≡ true }
-    ensures { MatchResult result (λ b. begun_of b ≡ begin sha256 (task_of task) (plan_of plan) rounds.count) (λ f. f ≡ Memory) }
+    ensures { IfOk result (λ b. begun_of b ≡ begin sha256 (task_of task) (plan_of plan) rounds.count) }
 {
     let word = write_task(heap, &task)?;
     let size = 32 * task.trains as usize;
@@ -57,6 +56,6 @@ impl Ready {
         ensures conduct { (hash : List ℕ → List ℕ) → Conduct hash (task_of task) (plan_of plan) rounds.count }
     {
         test_plan(&task, &plan)?;
-        begin(heap, task, plan, rounds)
+        Ok(begin(heap, task, plan, rounds)?)
     }
 }

@@ -1,6 +1,7 @@
 -- What the steps of building a task with prohibitions do. Assumes nothing.
-use Rattle.std.specs.Prelude.{◌≡◌, ◌<◌, ◌≤◌, Bool, true, false, ◌&&◌, ◌⊎◌, List, [], ◌∷◌, ◌++◌, map, length, vec_items, vec_len, Option, Result, Vec}
+use Rattle.std.specs.Prelude.{◌≡◌, ◌<◌, ◌≤◌, Bool, true, false, ◌&&◌, ◌⊎◌, List, [], ◌∷◌, ◌++◌, map, length, vec_items, vec_len, Option, Result, Vec, OnOk}
 use Rattle.std.specs.declared.alloc.Global.{Global}
+use Rattle.std.specs.declared.alloc.AllocError.{AllocError}
 use Rattle.std.specs.Option as options
 use Rattle.std.specs.Result as results
 use Rattle.paths.specs.Plan.{Pair, Task}
@@ -28,9 +29,9 @@ Putting f old new r =
     (λ _. (map pair_of new ≡ f (map pair_of old)) × (length new ≤ 4096))
     (λ e. ((e ≡ Range) × (4096 < length (f (map pair_of old)))) ⊎ (e ≡ Memory))
 
--- pairs were added behind; else memory was wanting
-abbrev pub Adding : List Pair → List CodePair → List CodePair → Result (Unit {0}) Fault → Type 0
-Adding xs old new r = results.MatchResult r (λ _. map pair_of new ≡ map pair_of old ++ xs) (λ e. e ≡ Memory)
+-- pairs were added behind
+abbrev pub Adding : List Pair → List CodePair → List CodePair → Result (Unit {0}) AllocError → Type 0
+Adding xs old new r = OnOk r (map pair_of new ≡ map pair_of old ++ xs)
 
 -- the pair for a prohibition, or that it names a train or a path that isn't there
 abbrev pub Named : Task → Prohibition → Option CodePair → Type 0

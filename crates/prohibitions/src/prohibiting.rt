@@ -6,7 +6,7 @@ ghost use Rattle.prohibitions.specs.Prohibiting.{Fixes, prohibit, put, put_all, 
 ghost use Rattle.tasks.specs.Reading.{Answers};
 ghost use Rattle.prohibitions.specs.Putting.{in_order, Putting, Adding, Named, Prohibiting, BuiltPairs};
 
-use std::alloc::Global;
+use std::alloc::{AllocError, Global};
 use tasks::{Fault, MOST_PAIRS, MOST_TRAINS, Pair, Task};
 
 // A train, and a path that it may not use.
@@ -44,7 +44,7 @@ fn put_all(pairs: &mut Vec<Pair>, more: &[Pair]) -> Result<(), Fault>
 }
 
 // The j-th of the trains from `from` on, with each before it.
-fn add_with_each(more: &mut Vec<Pair>, from: u16, j: u8) -> Result<(), Fault>
+fn add_with_each(more: &mut Vec<Pair>, from: u16, j: u8) -> Result<(), AllocError>
     requires { from + j ≤ 1024 }
     ensures { Adding (with_each from j j) more.old.items more.new.items result }
 {
@@ -58,7 +58,7 @@ fn add_with_each(more: &mut Vec<Pair>, from: u16, j: u8) -> Result<(), Fault>
 }
 
 // Every two of `count` trains from `from` on.
-fn add_every_two(more: &mut Vec<Pair>, from: u16, count: u8) -> Result<(), Fault>
+fn add_every_two(more: &mut Vec<Pair>, from: u16, count: u8) -> Result<(), AllocError>
     requires { from + count ≤ 1024 }
     ensures { Adding (every_two from count) more.old.items more.new.items result }
 {

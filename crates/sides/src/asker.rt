@@ -1,7 +1,6 @@
 // How the program of the asker begins.
-ghost use Rattle.std.specs.Prelude.{◌≡◌, ℕ, List, MatchResult};
+ghost use Rattle.std.specs.Prelude.{◌≡◌, ℕ, List, IfOk};
 ghost use Rattle.sha256.specs.Sha256.{sha256};
-ghost use Rattle.tasks.specs.declared.fault.Fault.TheVariants.{Memory};
 ghost use Rattle.tasks.specs.Model.{task_of};
 ghost use Rattle.asking.specs.Conduct.{Conduct};
 ghost use Rattle.asking.specs.Model.{awaiting_of};
@@ -10,14 +9,14 @@ ghost use Rattle.joined.specs.Joined.{Joins};
 ghost use Rattle.joined.specs.Sides.{NothingAfter};
 
 use asking::Awaiting;
-use std::alloc::Global;
-use tasks::{Fault, Rounds, Task};
+use std::alloc::{AllocError, Global};
+use tasks::{Rounds, Task};
 
-// An asker who wants to see so many rounds of the task; it is refused for want of memory alone. Of its runs it is promised: they keep to the asker's conduct; where no
+// An asker who wants to see so many rounds of the task. Of its runs it is promised: they keep to the asker's conduct; where no
 // plan fits, whatever is said to it, it is content in few of the ways to ask, or two texts of one digest are at hand, and so of the bytes that it draws; with an honest
 // planner both are content, unless drawn bytes are too few; and after a refusal nothing more is sent.
-pub fn start_asker(heap: Global, task: Task, rounds: Rounds) -> Result<Awaiting, Fault>
-    ensures state { MatchResult result (λ s. awaiting_of s ≡ record { task = task_of task; rounds = rounds.count }) (λ f. f ≡ Memory) }
+pub fn start_asker(heap: Global, task: Task, rounds: Rounds) -> Result<Awaiting, AllocError>
+    ensures state { IfOk result (λ s. awaiting_of s ≡ record { task = task_of task; rounds = rounds.count }) }
     ensures conduct { (hash : List ℕ → List ℕ) → Conduct hash (task_of task) rounds.count }
     ensures along { SoundAlong }
     ensures sound { Sound }

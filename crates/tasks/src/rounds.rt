@@ -7,7 +7,7 @@ use super::fault::Fault;
 
 pub const MOST_ROUNDS: u32 = 16777216;
 
-// At most 2^24; none is allowed.
+// At most 2^24, and 0 is allowed.
 #[derive(Clone, Copy, Debug, PartialEq, Eq)]
 pub struct Rounds {
     pub count: u32,

@@ -1,17 +1,15 @@
 // Tasks and plans written as bytes.
-ghost use Rattle.std.specs.Prelude.{◌≡◌, MatchResult};
+ghost use Rattle.std.specs.Prelude.{◌≡◌, IfOk};
 ghost use Rattle.tasks.specs.Model.{task_of, plan_of};
 ghost use Rattle.tasks.specs.Pair.{pair_of};
-ghost use Rattle.tasks.specs.declared.fault.Fault.TheVariants.{Memory};
 ghost use Rattle.tasks.specs.Writing.{head_bytes, pair_bytes, task_bytes, plan_bytes};
 
-use super::fault::Fault;
 use super::kind::Kind;
 use super::pair::Pair;
 use super::plan::Plan;
 use super::reading::Head;
 use super::task::Task;
-use std::alloc::Global;
+use std::alloc::{AllocError, Global};
 
 fn head_bytes(head: Head) -> [u8; 6]
     ensures { result ≡ head_bytes head.trains head.paths head.pairs }
@@ -29,9 +27,9 @@ fn pair_bytes(pair: Pair) -> [u8; 4]
     [a, b, c, d]
 }
 
-// The bytes of a task. It is refused for want of memory alone.
-pub fn write_task(heap: Global, task: &Task) -> Result<Vec<u8>, Fault>
-    ensures { MatchResult result (λ v. v.items ≡ task_bytes (task_of task.now)) (λ f. f ≡ Memory) }
+// The bytes of a task.
+pub fn write_task(heap: Global, task: &Task) -> Result<Vec<u8>, AllocError>
+    ensures { IfOk result (λ v. v.items ≡ task_bytes (task_of task.now)) }
 {
     let head = head_bytes(Head {
         trains: task.trains,
@@ -45,9 +43,9 @@ pub fn write_task(heap: Global, task: &Task) -> Result<Vec<u8>, Fault>
     Ok(bytes)
 }
 
-// The bytes of a plan. It is refused for want of memory alone. `words` writes the same of any paths into memory that is lent: the two share no step.
-pub fn write_plan(heap: Global, plan: &Plan) -> Result<Vec<u8>, Fault>
-    ensures { MatchResult result (λ v. v.items ≡ plan_bytes (plan_of plan.now)) (λ f. f ≡ Memory) }
+// The bytes of a plan. `words` writes the same of any paths into memory that is lent: the two share no step.
+pub fn write_plan(heap: Global, plan: &Plan) -> Result<Vec<u8>, AllocError>
+    ensures { IfOk result (λ v. v.items ≡ plan_bytes (plan_of plan.now)) }
 {
     let mut bytes = Vec::new(heap);
     bytes.push(Kind::Plan.byte())?;

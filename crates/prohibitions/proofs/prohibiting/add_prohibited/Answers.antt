@@ -1,7 +1,7 @@
-use Rattle.std.proofs.Common.{sym, refl, inl, append-nil, rules}
+use Rattle.std.proofs.Common.{sym, refl, append-nil, rules}
 use Rattle.tasks.specs.Model.{task_of}
 use Rattle.prohibitions.specs.Prohibiting.{named}
-use Rattle.prohibitions.proofs.Adding.{name_more, name_all, named-fails}
+use Rattle.prohibitions.proofs.Adding.{name_more, named-fails}
 use Rattle.prohibitions.proofs.prohibiting.add_prohibited.Goals as goal
 
 pub loop-prohibition-init : goal.loop-prohibition-init

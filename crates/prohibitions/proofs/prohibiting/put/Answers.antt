@@ -1,6 +1,6 @@
 use Rattle.std.proofs.Common.{refl, ap, ◌∙◌, inl, map, arith}
 use Rattle.tasks.specs.Pair.{pair_of}
-use Rattle.prohibitions.proofs.Placing.{put_found, put-within, put_made, put_longer}
+use Rattle.prohibitions.proofs.Placing.{put_found, put_made, put_longer}
 use Rattle.prohibitions.proofs.prohibiting.put.Goals as goal
 
 pub returns-in_default : goal.returns-in_default
