@@ -4,6 +4,8 @@ use mathlib.Core.List.{reverse_aux}
 use Rattle.std.proofs.lemmas.List.{reverse-reverse}
 use Rattle.std.proofs.lemmas.Bool.{lt-ltb, le-ltb, eq-eqb}
 use Rattle.paths.specs.Plan.{Task, all_below}
+use Rattle.tasks.specs.declared.task.Task.{Task as CodeTask}
+use Rattle.tasks.specs.Model.{task_of}
 use Rattle.tasks.specs.Reading.{Got, Looked, got, refused, and_then}
 use Rattle.tasks.specs.Task.{sound}
 use Rattle.tasks.specs.Writing.{task_bytes}
@@ -21,6 +23,7 @@ use Rattle.asking.specs.Asking.{Ready, led, turn, begun, on_task, on_boxes, is_o
 use Rattle.round.specs.Line.{Event, sent, heard, Other, SaysBytes, Ran}
 use Rattle.asking.specs.Run.{Gone, going_on, asked, boxed, left_in, run}
 use Rattle.asking.specs.Conduct.{NoTask, Contents, Whole, no_task, own_task, ends1, Conducted, Conduct, kept, text, ends_by, From, all_rounds, drawn_out, no_boxes, end0, end1}
+use Rattle.asking.proofs.Answered.{sound_of}
 use Rattle.asking.proofs.Refusals.{too_few, pair_there, task-refused, task-met, own_met, as_said, boxes-refused, boxes-met, refuses, contents}
 
 ends1-back : (events line : List Event) → ends1 (reverse_aux events line) ≡ ends1 events + ends1 line
@@ -179,3 +182,7 @@ module _ (H : List ℕ → List ℕ) (t : Task) (good : sound t ≡ true) (r : �
 
 pub conduct : (H : List ℕ → List ℕ) (t : Task) → sound t ≡ true → (r : ℕ) → Conduct H t r
 conduct H t good r other below drawn = begins_well H t good r other below drawn (other []) (below []) (and_then (read_word t (other [])) (on_task (task_bytes t))) refl
+
+-- of a task of the code
+pub conduct_of : (t : CodeTask) (r : ℕ) (H : List ℕ → List ℕ) → Conduct H (task_of t) r
+conduct_of t r H = conduct H (task_of t) (sound_of t) r

@@ -3,6 +3,9 @@ use Rattle.std.proofs.Common.{◌≡◌, ℕ, zero, suc, ◌+◌, ◌*◌, ◌<�
 use mathlib.Core.List.{reverse_aux}
 use Rattle.std.proofs.lemmas.Bool.{cases_Bool, lt-ltb, le-ltb}
 use Rattle.paths.specs.Plan.{Task, Plan}
+use Rattle.tasks.specs.declared.task.Task.{Task as CodeTask}
+use Rattle.tasks.specs.declared.plan.Plan.{Plan as CodePlan}
+use Rattle.tasks.specs.Model.{task_of, plan_of}
 use Rattle.drawing.specs.Drawing.{Drawn, drew, short}
 use Rattle.tasks.specs.Reading.{Got, got, refused}
 use Rattle.tasks.specs.Writing.{task_bytes}
@@ -104,3 +107,7 @@ pub conduct : (H : List ℕ → List ℕ) (t : Task) (p : Plan) (r : ℕ) → t.
 conduct H t p r few other bytes drawn =
     let w = goes H t p r (word_law t few) other bytes r 0 drawn [] (sent (task_bytes t) ∷ []) (zero-add r) in
     (w.rest, ap reverse w.is ∙ (reverse_onto w.rest (sent (task_bytes t) ∷ []) [] ∙ ap (λ xs. sent (task_bytes t) ∷ xs) (append-nil w.rest)), w.from)
+
+-- of a task and a plan of the code
+pub conduct_of : (t : CodeTask) (p : CodePlan) (r : ℕ) (H : List ℕ → List ℕ) → Conduct H (task_of t) (plan_of p) r
+conduct_of t p r H = conduct H (task_of t) (plan_of p) r (omega (arith, t.few_trains))

@@ -51,6 +51,7 @@ fn begin(heap: Global, task: Task, plan: Plan, rounds: Rounds) -> Result<Begun, 
 impl Ready {
     // A showing of the plan in so many rounds, or the fault for which there is none: then nothing is sent. Where it is begun, its steps, taken in turn against
     // any other side, keep to the planner's conduct.
+    #[tactic(auto, using(crate::proofs::Conducts::conduct_of))]
     pub fn start(heap: Global, task: Task, plan: Plan, rounds: Rounds) -> Result<Begun, Fault>
         ensures answer { Meets begun_of result (start sha256 (task_of task) (plan_of plan) rounds.count) }
         ensures conduct { (hash : List ℕ → List ℕ) → Conduct hash (task_of task) (plan_of plan) rounds.count }
