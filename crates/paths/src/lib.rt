@@ -1,5 +1,5 @@
 // Tasks and plans, rounds with boxes as terms, cheating planners, and what is promised of them: the definitions are in specs/, the proofs in proofs/. And orders
-// of paths, with their pairing.
+// of paths, with their pairing. A promise is the contract of a function with no code, so that it is checked as any other.
 #![tactic(auto)]
 
 ghost use Rattle.std.specs.Prelude.{◌≡◌};

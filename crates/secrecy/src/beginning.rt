@@ -1,4 +1,4 @@
-// How the planner begins, with what is promised of its whole run.
+// How the planner begins, with what is promised of its whole run: a function of its own, since `planning` lies below what is promised here.
 ghost use Rattle.std.specs.Prelude.{ℕ, List};
 ghost use Rattle.sha256.specs.Sha256.{sha256};
 ghost use Rattle.tasks.specs.Model.{task_of, plan_of};

@@ -33,7 +33,7 @@ pub enum Fault {
 }
 
 impl Fault {
-    // The number by which a fault is told; 0 for the want of memory, which has none.
+    // The number by which a fault is told; 0 for the want of memory, which has none: no Option, since the definition gives each fault a number.
     pub fn number(&self) -> u8
         ensures { result ≡ number self.now }
     {
@@ -75,7 +75,8 @@ impl Fault {
     }
 }
 
-// What a person is told. The trains of an unfit pair are left out, since only the planner may know them.
+// What a person is told, by hand, since `thiserror` would say the numbers a second time. The trains of an unfit pair are left out, as only the planner may know
+// them.
 impl fmt::Display for Fault {
     fn fmt<W: fmt::Write>(&self, f: &mut fmt::Formatter<W>) -> fmt::Result {
         let number = self.number();

@@ -11,6 +11,7 @@ pub struct Pair {
 }
 
 impl Pair {
+    // The order under the name that the definition has for it.
     pub fn before(self, other: Pair) -> bool
         ensures { result ≡ before (pair_of self) (pair_of other) }
     {

@@ -1,4 +1,5 @@
-// Tasks and plans read from bytes. All is looked at before anything is kept, so that each fault is told by its number even where memory is wanting.
+// Tasks and plans read from bytes. All is looked at before anything is kept, so that each fault is told by its number even where memory is wanting. What is read is
+// taken apart by `let .. else`, unit by unit: a rule of the project keeps this form in readers.
 ghost use Rattle.std.specs.Prelude.{◌≡◌, ◌*◌, ◌/◌, map, length, drop, IfOk};
 ghost use Rattle.tasks.specs.Model.{task_of, plan_of};
 ghost use Rattle.tasks.specs.Pair.{pair_of};
@@ -93,6 +94,7 @@ fn check_pairs(head: Head, bytes: &[u8]) -> Result<(), Fault>
     ensures { looks result ≡ read_pairs head.trains head.pairs bytes.now }
 {
     let mut rest = bytes;
+    // before each pair that can be good, as the definition begins
     let mut last = Pair {
         first: 0,
         second: 0,

@@ -15,7 +15,7 @@ pub struct Rounds {
 }
 
 impl Rounds {
-    // So many rounds, or fault 12 where they are too many.
+    // So many rounds, or fault 12 where they are too many. No TryFrom beside it, which would say the same.
     pub fn new(count: u64) -> Result<Rounds, Fault>
         ensures { gives (λ (n : Rounds). n.count) result ≡ asked_rounds count }
     {
