@@ -9,17 +9,21 @@ use Rattle.paths.proofs.Paired.{fits-parts}
 use Rattle.paths.proofs.Caught.{caught}
 use Rattle.paths.proofs.Misses.{same-pair}
 use Rattle.tasks.specs.Reading.{got, refused, and_then}
+use Rattle.sha256.specs.Sha256.{sha256}
 use Rattle.book.specs.Chain.{Sized}
 use Rattle.boxes.specs.Box.{Opening, text_of, boxes_of}
+use Rattle.boxes.specs.Binding.{collides, texts_of}
+use Rattle.boxes.proofs.Binds.{opened-same}
 use Rattle.boxes.proofs.Boxes.{laid}
-use Rattle.paths.proofs.Same.{same_decides}
+use Rattle.boxes.proofs.Digests.{length-sha256}
+use Rattle.paths.proofs.Same.{same_decides, same_itself}
 use Rattle.words.specs.Said.{opened, end}
 use Rattle.words.specs.Reading.{read_word}
 use Rattle.words.specs.Writing.{said_bytes}
 use Rattle.words.proofs.Laws.{word_law}
 use Rattle.round.specs.Round.{part_of, opening_for, opens_in, test_opened}
 use Rattle.asking.specs.Asking.{is_opened_of, test, settle}
-use Rattle.joined.specs.Cases.{AllHold, cases, three, two, NoPlan, Cheats, lot_of, asked, altered, answer, AnotherChance}
+use Rattle.joined.specs.Cases.{AllHold, cases, three, two, NoPlan, Cheats, lot_of, asked, altered, answer, NotOpened, AnotherChance}
 
 none-two : NoPlan two
 none-two p fp =
@@ -53,24 +57,37 @@ module _ (H : List ℕ → List ℕ) (sized : Sized H) (digest chances another :
       let part : length (part_of chances 2) ≡ 32 = simp (length-take, length-drop) (omega arith) in
       (word_law three (lit< tt)).reads (opened 0 (altered H digest chances another) second) (and_from _ _ (eq-eqb _ _ own) (eq-eqb _ _ part))
 
-  shut : H (text_of 0 (altered H digest chances another)) ≢ H (text_of 0 (opening_for (0 ∷ 1 ∷ 2 ∷ []) (lot_of chances) 0)) → opens_in H 0 digests (altered H digest chances another) ≡ false
-  shut differ = go (cases_Bool _)
-    where
-      go : (opens_in H 0 digests (altered H digest chances another) ≡ true) ⊎ (opens_in H 0 digests (altered H digest chances another) ≡ false) →
-          opens_in H 0 digests (altered H digest chances another) ≡ false
-      go (inl e) = absurd (differ ((same_decides _ _).0 e ∙ (laid H sized).each 0 0 (2 ∷ 0 ∷ 1 ∷ []) chances 0 (lit< tt)))
-      go (inr e) = e
+  -- the box is shut, or the two openings open it both
+  shut : another ≢ part_of chances 0 → (opens_in H 0 digests (altered H digest chances another) ≡ false) ⊎
+      (collides H (texts_of 0 (altered H digest chances another) (opening_for (0 ∷ 1 ∷ 2 ∷ []) (lot_of chances) 0)) ≡ true)
+  shut differ =
+      let x = altered H digest chances another in
+      let y = opening_for (0 ∷ 1 ∷ 2 ∷ []) (lot_of chances) 0 in
+      elim (cases_Bool (opens_in H 0 digests x)) [
+        | inl e ↦
+          let same : H (text_of 0 x) ≡ H (text_of 0 y) = (same_decides _ _).0 e ∙ (laid H sized).each 0 0 (2 ∷ 0 ∷ 1 ∷ []) chances 0 (lit< tt) in
+          elim (opened-same x y H (H (text_of 0 y)) 0 (lit< tt) (lit< tt) ((same_decides _ _).1 same) (same_itself (H (text_of 0 y)))) [
+            | inl q ↦ absurd (differ (ap (λ o. o.chance) q))
+            | inr c ↦ inr c
+          ]
+        | inr e ↦ inl e
+      ]
 
-another_chance : AnotherChance
+  no_other_chance : opens_in H 0 digests (altered H digest chances another) ≡ false → NotOpened H digest chances another
+  no_other_chance closed =
+      let read = answer_read in
+      let nine : test_opened H three 0 1 digests (opened 0 (altered H digest chances another) second) ≡ refused 9 = rw closed refl in
+      let e = tested_so (answer H digest chances another) (ap (is_opened_of 0) read) (ap (λ g. and_then g (test_opened H three 0 1 digests)) read ∙ nine) in
+      record { nine = ap (λ x. x.test) e; end0 = ap (λ x. x.end) e; over = ap (settle H) e }
+
+another_chance : (H : List ℕ → List ℕ) → Sized H → AnotherChance H
 another_chance H sized digest chances another long own differ =
-    let read = answer_read H sized digest chances another long own in
-    let ds = digests H sized digest chances another long own in
-    let nine : test_opened H three 0 1 ds (opened 0 (altered H digest chances another) (second H sized digest chances another long own)) ≡ refused 9 =
-    rw (shut H sized digest chances another long own differ) refl in
-    let e = tested_so H sized digest chances another long own (answer H digest chances another) (ap (is_opened_of 0) read) (ap (λ g. and_then g (test_opened H three 0 1 ds)) read ∙ nine) in
-    record { nine = ap (λ x. x.test) e; end0 = ap (λ x. x.end) e; over = ap (settle H) e }
+    elim (shut H sized digest chances another long own differ) [
+      | inl e ↦ inl (no_other_chance H sized digest chances another long own e)
+      | inr c ↦ inr c
+    ]
 
 pub all-cases : AllHold cases
 unfolding AllHold up_to before asks count passes
 all-cases =
-    (refl, ((λ chances. refl), (refl, ((λ chances. refl), (same-pair.none, (refl, (refl, (refl, (at_most_four, (none-two, (never-two, (refl, (another_chance, tt)))))))))))))
+    (refl, ((λ chances. refl), (refl, ((λ chances. refl), (same-pair.none, (refl, (refl, (refl, (at_most_four, (none-two, (never-two, (refl, (another_chance sha256 length-sha256, (another_chance, tt))))))))))))))

@@ -1,4 +1,5 @@
 pub mod Sides
+pub mod Refused
 pub mod Written
 pub mod Answered
 pub mod Joins

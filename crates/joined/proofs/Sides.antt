@@ -43,6 +43,11 @@ module _ (H : List ℕ → List ℕ) where
   plans-out zero drawn o = refl
   plans-out (suc left) drawn o = refl
 
+  pub asks-out : (left : ℕ) (drawn : List ℕ) (o : Over) → asks H left drawn (out o) ≡ ends o
+  unfolding asks
+  asks-out zero drawn o = refl
+  asks-out (suc left) drawn o = refl
+
 module _ (H : List ℕ → List ℕ) (other : Other) where
   plans-end : (left : ℕ) (drawn : List ℕ) (o : Over) (line : List Event) → planning-run.run H other left drawn (out o) line ≡ record { line = line; over = o }
   unfolding planning-run.run

@@ -1,6 +1,6 @@
 -- The worked cases: one table of what is computed by the definitions and what is expected, and of what is claimed of them. H is any function in the place of SHA-256.
 -- Assumes nothing.
-use Rattle.std.specs.Prelude.{◌≡◌, ℕ, ◌*◌, ◌<◌, ◌≤◌, false, cond, T, ◌≢◌, List, [], ◌∷◌, map, length}
+use Rattle.std.specs.Prelude.{◌≡◌, ℕ, ◌*◌, ◌<◌, ◌≤◌, true, false, cond, T, ◌≢◌, ◌⊎◌, List, [], ◌∷◌, map, length}
 use Rattle.paths.specs.Plan.{Task, Plan, at, fits}
 use Rattle.paths.specs.Show.{Shown}
 use Rattle.paths.specs.Cheat as cheat
@@ -8,14 +8,16 @@ use Rattle.paths.specs.Cheat.{Cheat, lucky, count}
 use Rattle.paths.specs.Misses.{trio}
 use Rattle.paths.specs.Pairing.{pair_coin}
 use Rattle.tasks.specs.Reading.{refused}
-use Rattle.boxes.specs.Box.{Opening, text_of}
+use Rattle.sha256.specs.Sha256.{sha256}
+use Rattle.boxes.specs.Box.{Opening}
+use Rattle.boxes.specs.Binding.{collides, texts_of}
 use Rattle.book.specs.Chain.{Sized, next_digest}
 use Rattle.book.specs.Lengths.{round_text}
 use Rattle.lots.specs.Lots.{Lot}
 use Rattle.words.specs.Said.{Said, task, plan, boxes, ask, opened, end}
 use Rattle.words.specs.Writing.{said_bytes}
 use Rattle.round.specs.Over.{fault, out}
-use Rattle.round.specs.Round.{held, boxes_for, opening_for, opened_for, content_with}
+use Rattle.round.specs.Round.{held, part_of, boxes_for, opening_for, opened_for, content_with}
 use Rattle.asking.specs.Asking.{Asked, test, settle}
 
 -- what is computed, and what is expected; or a claim
@@ -86,11 +88,11 @@ module _ (H : List ℕ → List ℕ) (digest chances another : List ℕ) where
     pub over : settle H (test H asked answer) ≡
         out record { outcome = fault 9 0; digest = next_digest H digest (round_text asked.boxes asked.ask answer (said_bytes (end 0 false))) }
 
--- where the two texts, with the chance of the box and with the other one, have different digests
-abbrev pub AnotherChance : Type 0
-AnotherChance =
-    (H : List ℕ → List ℕ) → Sized H → (digest chances another : List ℕ) → length chances ≡ 96 → length another ≡ 32 →
-    H (text_of 0 (altered H digest chances another)) ≢ H (text_of 0 (opening_for (0 ∷ 1 ∷ 2 ∷ []) (lot_of chances) 0)) → NotOpened H digest chances another
+-- whatever other chance it is, or the texts of the two openings are two texts of one digest
+abbrev pub AnotherChance : (List ℕ → List ℕ) → Type 0
+AnotherChance H =
+    (digest chances another : List ℕ) → length chances ≡ 96 → length another ≡ 32 → another ≢ part_of chances 0 →
+    NotOpened H digest chances another ⊎ (collides H (texts_of 0 (altered H digest chances another) (opening_for (0 ∷ 1 ∷ 2 ∷ []) (lot_of chances) 0)) ≡ true)
 
 abbrev pub cases : List Case
 cases =
@@ -112,6 +114,7 @@ cases =
     claims ((f : Cheat) → Cheats two f → (r : ℕ) → 0 < r → lucky two f r ≡ 0) ∷
     -- three pairs: 120 rounds
     gives (40 * length three.pairs) 120 ∷
-    -- an opening with another chance
-    claims AnotherChance ∷
+    -- an opening with another chance, with SHA-256 and with any function to 32 numbers in its place
+    claims (AnotherChance sha256) ∷
+    claims ((H : List ℕ → List ℕ) → Sized H → AnotherChance H) ∷
     []

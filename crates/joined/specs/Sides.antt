@@ -15,27 +15,39 @@ abbrev pub goes : {A : Type 0} → Leads A → (A → Side) → Side
 goes (on x) next = next x
 goes (out o) next = ends o
 
+-- the planner that awaits the End of a round, and after it goes on
+abbrev pub awaits_end : (List ℕ → List ℕ) → (Leads planning.Ready → Side) → planning.Opened → Side
+awaits_end H next o = hears (λ v. next (planning-run.and_on (planning.hear o v) (planning.settle H)))
+
+-- the Ask
+abbrev pub awaits_ask : (List ℕ → List ℕ) → (Leads planning.Ready → Side) → planning.Closed → Side
+awaits_ask H next c = hears (λ w. goes (planning.answer c w) (λ o. says o.opened (awaits_end H next o)))
+
 -- so many rounds at most, from these drawn bytes
 unfoldable pub plans : (List ℕ → List ℕ) → ℕ → List ℕ → Leads planning.Ready → Side
 plans H zero drawn (out o) = ends o
 plans H zero drawn (on s) = ends (planning.stops s 0)
 plans H (suc left) drawn (out o) = ends o
 plans H (suc left) drawn (on s) =
-    goes (planning.close H s drawn) (λ c. says c.boxes (hears (λ w.
-    goes (planning.answer c w) (λ o. says o.opened (hears (λ v.
-    plans H left (planning.left_over s.task drawn) (planning-run.and_on (planning.hear o v) (planning.settle H))))))))
+    goes (planning.close H s drawn) (λ c. says c.boxes (awaits_ask H (plans H left (planning.left_over s.task drawn)) c))
 
 abbrev pub planner : (List ℕ → List ℕ) → Task → Plan → ℕ → List ℕ → Side
 planner H t p r drawn = let b = planning.begin H t p r in says b.word (plans H r drawn b.next)
+
+-- the asker that awaits the answer, and after its End goes on
+abbrev pub awaits_answer : (List ℕ → List ℕ) → (Leads asking.Ready → Side) → asking.Asked → Side
+awaits_answer H next a = hears (λ v. says (asking.test H a v).end (next (asking.settle H (asking.test H a v))))
+
+-- the Boxes
+abbrev pub awaits_boxes : (List ℕ → List ℕ) → (Leads asking.Ready → Side) → asking.Drawn → Side
+awaits_boxes H next d = hears (λ w. goes (asking.question d w) (λ a. says a.ask (awaits_answer H next a)))
 
 unfoldable pub asks : (List ℕ → List ℕ) → ℕ → List ℕ → Leads asking.Ready → Side
 asks H zero drawn (out o) = ends o
 asks H zero drawn (on s) = ends record { outcome = fault 0 s.round; digest = s.digest }
 asks H (suc left) drawn (out o) = ends o
 asks H (suc left) drawn (on s) =
-    goes (asking.draw s drawn) (λ d. hears (λ w.
-    goes (asking.question d w) (λ a. says a.ask (hears (λ v.
-    says (asking.test H a v).end (asks H left (asking-run.left_in (question_in s.task drawn)) (asking.settle H (asking.test H a v))))))))
+    goes (asking.draw s drawn) (awaits_boxes H (asks H left (asking-run.left_in (question_in s.task drawn))))
 
 abbrev pub asker : (List ℕ → List ℕ) → Task → ℕ → List ℕ → Side
 asker H t r drawn = hears (λ w. asks H r drawn (asking.meet H record { task = t; rounds = r } w))

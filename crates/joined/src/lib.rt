@@ -5,6 +5,7 @@ ghost use Rattle.std.specs.Prelude.{◌≡◌, ℕ, List};
 ghost use Rattle.joined.specs.Answered.{Completes};
 ghost use Rattle.joined.specs.Cases.{AllHold, cases};
 ghost use Rattle.joined.specs.Joined.{Joins};
+ghost use Rattle.joined.specs.Refused.{RefusedEnds};
 ghost use Rattle.joined.specs.Side.{JoinedIs};
 ghost use Rattle.joined.specs.Sides.{NothingAfter, SidesRun};
 
@@ -16,11 +17,12 @@ pub fn completeness_holds()
 {}
 
 // Both sides as what they say and hear in turn: the runs of planner and asker are the runs of these, joined runs are such runs, and after the last word that a side
-// hears, as a refused one, nothing that could come makes a difference.
+// hears nothing that could come makes a difference; and after a word that is refused nothing more is sent, whatever comes.
 pub fn sides_hold()
     ensures runs { (hash : List ℕ → List ℕ) → SidesRun hash }
     ensures joined { JoinedIs }
     ensures after { (hash : List ℕ → List ℕ) → NothingAfter hash }
+    ensures refused { (hash : List ℕ → List ℕ) → RefusedEnds hash }
 {}
 
 // Joined by a faithful line, both are content with all rounds, or the drawn bytes of a side are too few for one; their books are the same.

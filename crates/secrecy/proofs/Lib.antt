@@ -7,3 +7,4 @@ pub mod Orders
 pub mod Often
 pub mod Drawn
 pub mod Misses
+pub mod All

@@ -1,27 +1,30 @@
 -- With lots paired, the lines of two showings differ only in boxes that stay closed. Assumes nothing.
-use Rattle.std.proofs.Common.{◌≡◌, ℕ, zero, suc, ◌+◌, ◌/◌, ◌<◌, Bool, true, false, cond, T, eqb, ltb, List, [], ◌∷◌, map, length, take, sym, refl, ap, ◌∙◌, zero-add, arith, lt→ltb}
+use Rattle.std.proofs.Common.{◌≡◌, ℕ, zero, suc, ◌+◌, ◌/◌, ◌<◌, ◌≤◌, Bool, true, false, cond, T, eqb, ltb, List, [], ◌∷◌, ◌++◌, map, length, take, drop, sym, refl, ap, ◌∙◌, subst, zero-add, arith, lt→ltb}
 use mathlib.Core.List.{reverse_aux}
 use lib.Ieee.Fits.{and_i}
-use Rattle.std.proofs.lemmas.List.{get_or-map, length-map}
+use Rattle.std.proofs.Math.Seq.{drop-append-add}
+use Rattle.std.proofs.lemmas.List.{get_or-map, length-map, length-append, take-append-le}
 use Rattle.std.proofs.lemmas.Bool.{ltb-true}
 use Rattle.paths.specs.Plan.{Task, Good, Plan, at, fits, all_below}
 use Rattle.paths.proofs.Paired.{fits-parts, pairs_coin}
 use Rattle.tasks.specs.Reading.{Got, got, refused, and_then}
-use Rattle.boxes.specs.Box.{boxes_of}
+use Rattle.sha256.specs.Sha256.{bytes}
+use Rattle.sha256.proofs.Bytes.{length-bytes}
+use Rattle.boxes.specs.Box.{box_text, boxes_of}
 use Rattle.boxes.proofs.Boxes.{length-boxes, laid}
 use Rattle.lots.specs.Lots.{Lot, coin_of_lot}
 use Rattle.words.specs.Said.{Said, task, plan, boxes, ask, end}
 use Rattle.words.specs.Said as said
 use Rattle.words.specs.Reading.{read_word}
 use Rattle.words.specs.Writing.{said_bytes}
-use Rattle.round.specs.Round.{held, boxes_for, boxes_head, opened_for}
+use Rattle.round.specs.Round.{held, part_of, boxes_for, boxes_head, opened_for}
 use Rattle.round.specs.Line.{Event, sent, heard, Other, Ran}
 use Rattle.round.specs.Over.{Over, Leads, on, out}
 use Rattle.planning.specs.Planning.{Ready, Closed, stops, turn, on_ask, ask_in, end_in, hear, settle}
 use Rattle.planning.specs.Run.{and_on}
 use Rattle.secrecy.specs.Hidden.{hide}
 use Rattle.secrecy.specs.Lots.{close_lot, run_lots, asked_lots, pair_lot, pair_lots}
-use Rattle.secrecy.specs.Twins.{Digests, Twins, begun, told, closed, opened}
+use Rattle.secrecy.specs.Twins.{Digests, OnlyNumbers, Twins, begun, told, closed, opened}
 use Rattle.secrecy.proofs.ByLots.{lots-out, opened_by}
 
 -- a question that was taken is for a pair that is there
@@ -51,14 +54,37 @@ digests H size n p l j k =
     let v : at (held p l.order) j ≡ at l.order (at p j) = get_or-map (at l.order) p j 0 0 k in
     e ∙ rw (zero-add j, v) refl
 
+module _ (H : List ℕ → List ℕ) (size : (x : List ℕ) → length (H x) ≡ 32) (p q : Plan) (long : length p ≡ length q) where
+  as-long : (n : ℕ) (l m : Lot) → length (boxes_of H n 0 (held p l.order) l.chances) ≡ length (boxes_of H n 0 (held q m.order) m.chances)
+  as-long n l m =
+      let a = length-boxes H n size (held p l.order) l.chances 0 in
+      let b = length-boxes H n size (held q m.order) m.chances 0 in
+      omega (arith, a, b, length-map p (at l.order), length-map q (at m.order))
+
+-- a text up to its number, and behind it
+module _ (n j : ℕ) where
+  head-long : length (bytes 4 n ++ bytes 2 j) ≡ 6
+  head-long = simp (length-append, length-bytes)
+
+  heads_alike : (a b : ℕ) (c d : List ℕ) → take 6 (box_text n j a c) ≡ take 6 (box_text n j b d)
+  heads_alike a b c d =
+      let k : 6 ≤ length (bytes 4 n ++ bytes 2 j) = omega (arith, head-long) in
+      take-append-le 6 (bytes 4 n ++ bytes 2 j) (a ∷ c) k ∙ sym (take-append-le 6 (bytes 4 n ++ bytes 2 j) (b ∷ d) k)
+
+  behind_number : (a : ℕ) (c : List ℕ) → drop 7 (box_text n j a c) ≡ c
+  behind_number a c = subst (λ k. drop (k + 1) (bytes 4 n ++ bytes 2 j ++ a ∷ c) ≡ c) head-long (drop-append-add (bytes 4 n ++ bytes 2 j) (a ∷ c) 1)
+
+pub only_numbers : (H : List ℕ → List ℕ) → ((x : List ℕ) → length (H x) ≡ 32) → OnlyNumbers H
+only_numbers H size = record {
+  texts = λ n p q l m j e. (heads_alike n j _ _ _ _, behind_number n j _ _ ∙ (ap (λ cs. part_of cs j) e ∙ sym (behind_number n j _ _)));
+  digests = λ n p q l m j k h e s. digests H size n p l j k ∙ (rw (e, s) refl ∙ sym (digests H size n q m j h));
+  heads = λ n p q l m e. ap (λ k. boxes_head n (k / 32)) (as-long H size p q e n l m);
+}
+
 -- digests left out, twins are the same
 module _ (H : List ℕ → List ℕ) (size : (x : List ℕ) → length (H x) ≡ 32) (t : Task) (p q : Plan) (long : length p ≡ length q) where
   head_same : (n : ℕ) (l m : Lot) → hide (sent (said_bytes (boxes_for H n p l))) ≡ hide (sent (said_bytes (boxes_for H n q m)))
-  head_same n l m =
-      let a = length-boxes H n size (held p l.order) l.chances 0 in
-      let b = length-boxes H n size (held q m.order) m.chances 0 in
-      let e : length (boxes_of H n 0 (held p l.order) l.chances) ≡ length (boxes_of H n 0 (held q m.order) m.chances) = omega (arith, a, b, length-map p (at l.order), length-map q (at m.order)) in
-      ap (λ k. sent (boxes_head n (k / 32))) e
+  head_same n l m = ap (λ k. sent (boxes_head n (k / 32))) (as-long H size p q long n l m)
 
   pub twins-hidden : (ls ms : List Lot) (xs ys : List Event) → Twins H t p q ls ms xs ys → map hide xs ≡ map hide ys
   twins-hidden _ _ _ _ begun = refl

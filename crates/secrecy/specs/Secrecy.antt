@@ -2,15 +2,16 @@
 use Rattle.std.specs.Prelude.{ℕ, T, List}
 use Rattle.paths.specs.Plan.{Task, Plan, fits}
 use Rattle.round.specs.Line.{Other}
-use Rattle.secrecy.specs.Twins.{Digests}
+use Rattle.secrecy.specs.Twins.{Digests, OnlyNumbers}
 use Rattle.secrecy.specs.Secret.{KeepsSecret}
 use Rattle.secrecy.specs.Drawn.{SecretRuns, KeepsSecretDrawn}
 
--- over lots, and over the drawn bytes that give them; and what the digests are of that an asker is taken not to look into
+-- over lots, and over the drawn bytes that give them; what the digests are of that an asker is taken not to look into; and where they differ
 pub record Secrecy (H : List ℕ → List ℕ) : Type 0 where
   pub lots : KeepsSecret H
   pub drawn : KeepsSecretDrawn H
   pub digests : Digests H
+  pub numbers : OnlyNumbers H
 
 -- In a showing of plan p in r rounds any asker sees what it would see of any other plan that fits.
 abbrev pub KeptSecret : (List ℕ → List ℕ) → Task → Plan → ℕ → Type 0

@@ -17,6 +17,17 @@ Digests H = (n : ℕ) (p : Plan) (l : Lot) (j : ℕ) → j < length p → part_o
 abbrev pub SameNumber : Plan → Plan → Lot → Lot → ℕ → Type 0
 SameNumber p q l m j = at l.order (at p j) ≡ at m.order (at q j)
 
+-- Of a train that both plans have, with lots of the same chances: the texts of its two boxes are the same up to the byte of the number, and behind it; and where the
+-- numbers are the same, so are the digests. So two Boxes of twins differ only in digests of boxes that are not opened, and their texts in that byte.
+pub record OnlyNumbers (H : List ℕ → List ℕ) : Type 0 where
+  pub texts : (n : ℕ) (p q : Plan) (l m : Lot) (j : ℕ) → l.chances ≡ m.chances →
+      let x = text_of n (opening_for p l j) in
+      let y = text_of n (opening_for q m j) in
+      (take 6 x ≡ take 6 y) × (drop 7 x ≡ drop 7 y)
+  pub digests : (n : ℕ) (p q : Plan) (l m : Lot) (j : ℕ) → j < length p → j < length q → l.chances ≡ m.chances → SameNumber p q l m j →
+      part_of (drop 7 (said_bytes (boxes_for H n p l))) j ≡ part_of (drop 7 (said_bytes (boxes_for H n q m))) j
+  pub heads : (n : ℕ) (p q : Plan) (l m : Lot) → length p ≡ length q → take 7 (said_bytes (boxes_for H n p l)) ≡ take 7 (said_bytes (boxes_for H n q m))
+
 -- The lines of a showing of plan p with lots, and of one of plan q with others; lots and words the last first. In each round the two lots have the same chances, so that
 -- the texts of a train's two boxes differ at most in the byte of the number; where a pair is opened, its two trains have the same numbers in both, so that their
 -- texts, their digests and the Opened are the same too. All else is the same. So this is what a premise on SHA-256 has yet to cover: that nobody who doesn't know a chance

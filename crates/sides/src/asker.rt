@@ -4,8 +4,9 @@ ghost use Rattle.sha256.specs.Sha256.{sha256};
 ghost use Rattle.tasks.specs.Model.{task_of};
 ghost use Rattle.asking.specs.Conduct.{Conduct};
 ghost use Rattle.asking.specs.Model.{awaiting_of};
-ghost use Rattle.soundness.specs.Sound.{SoundAlong, Sound, SoundAlongDrawn, SoundDrawn};
+ghost use Rattle.soundness.specs.Sound.{SoundAlong, Sound, SoundAlongDrawn, SoundDrawn, SoundAlongEnough, SoundEnough};
 ghost use Rattle.joined.specs.Joined.{Joins};
+ghost use Rattle.joined.specs.Refused.{RefusedEnds};
 ghost use Rattle.joined.specs.Sides.{NothingAfter};
 
 use asking::Awaiting;
@@ -22,8 +23,11 @@ pub fn start_asker(heap: Global, task: Task, rounds: Rounds) -> Result<Awaiting,
     ensures sound { Sound }
     ensures along_drawn { SoundAlongDrawn }
     ensures drawn { SoundDrawn }
+    ensures along_enough { SoundAlongEnough }
+    ensures enough { SoundEnough }
     ensures joined { Joins }
     ensures after { NothingAfter sha256 }
+    ensures refused { RefusedEnds sha256 }
 {
     Awaiting::start(heap, task, rounds)
 }

@@ -6,9 +6,10 @@ ghost use Rattle.tasks.specs.Reading.{Meets};
 ghost use Rattle.planning.specs.Conduct.{Conduct};
 ghost use Rattle.planning.specs.Model.{begun_of};
 ghost use Rattle.planning.specs.Planning.{start};
-ghost use Rattle.secrecy.specs.Secrecy.{KeptSecret};
+ghost use Rattle.secrecy.specs.Secrecy.{KeptSecret, Secrecy};
 ghost use Rattle.joined.specs.Answered.{Completes};
 ghost use Rattle.joined.specs.Joined.{Joins};
+ghost use Rattle.joined.specs.Refused.{RefusedEnds};
 ghost use Rattle.joined.specs.Sides.{NothingAfter};
 ghost use Rattle.blameless.specs.Blameless.{Blameless};
 
@@ -24,9 +25,11 @@ pub fn start_planner(heap: Global, task: Task, plan: Plan, rounds: Rounds) -> Re
     ensures answer { Meets begun_of result (start sha256 (task_of task) (plan_of plan) rounds.count) }
     ensures conduct { (hash : List ℕ → List ℕ) → Conduct hash (task_of task) (plan_of plan) rounds.count }
     ensures secrecy { KeptSecret sha256 (task_of task) (plan_of plan) rounds.count }
+    ensures hidden { Secrecy sha256 }
     ensures complete { Completes }
     ensures joined { Joins }
     ensures after { NothingAfter sha256 }
+    ensures refused { RefusedEnds sha256 }
     ensures blameless { Blameless sha256 }
 {
     secrecy::start(heap, task, plan, rounds)

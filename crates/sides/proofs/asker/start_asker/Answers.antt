@@ -1,7 +1,8 @@
 use Rattle.sha256.specs.Sha256.{sha256}
 use Rattle.soundness.proofs.Bounds.{sound-along, sound-whole}
-use Rattle.soundness.proofs.Shares.{sound-along-drawn, sound-drawn}
+use Rattle.soundness.proofs.Shares.{sound-along-drawn, sound-drawn, sound-along-enough, sound-enough}
 use Rattle.joined.proofs.Joins.{joins}
+use Rattle.joined.proofs.Refused.{refused_ends}
 use Rattle.joined.proofs.Sides.{nothing_after}
 use Rattle.sides.proofs.asker.start_asker.Goals as goal
 
@@ -14,6 +15,9 @@ returns c =
       sound = sound-whole;
       along_drawn = sound-along-drawn;
       drawn = sound-drawn;
+      along_enough = sound-along-enough;
+      enough = sound-enough;
       joined = joins;
       after = nothing_after sha256;
+      refused = refused_ends sha256;
     }

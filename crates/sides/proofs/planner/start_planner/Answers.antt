@@ -1,7 +1,9 @@
 use Rattle.sha256.specs.Sha256.{sha256}
 use Rattle.boxes.proofs.Digests.{length-sha256}
+use Rattle.secrecy.proofs.All.{secret}
 use Rattle.joined.proofs.Answered.{completes}
 use Rattle.joined.proofs.Joins.{joins}
+use Rattle.joined.proofs.Refused.{refused_ends}
 use Rattle.joined.proofs.Sides.{nothing_after}
 use Rattle.blameless.proofs.Clearing.{blameless}
 use Rattle.sides.proofs.planner.start_planner.Goals as goal
@@ -12,8 +14,10 @@ returns c =
       answer = c.start.ensures.answer;
       conduct = c.start.ensures.conduct;
       secrecy = c.start.ensures.secrecy;
+      hidden = secret sha256 length-sha256;
       complete = completes;
       joined = joins;
       after = nothing_after sha256;
+      refused = refused_ends sha256;
       blameless = blameless sha256 length-sha256;
     }
