@@ -10,6 +10,8 @@ use Rattle.paths.proofs.Caught.{caught}
 use Rattle.paths.proofs.Misses.{same-pair}
 use Rattle.tasks.specs.Reading.{got, refused, and_then}
 use Rattle.sha256.specs.Sha256.{sha256}
+use Rattle.tasks.specs.Task.{sound, rising}
+use Rattle.round.specs.Line.{Other}
 use Rattle.book.specs.Chain.{Sized}
 use Rattle.boxes.specs.Box.{Opening, text_of, boxes_of}
 use Rattle.boxes.specs.Binding.{collides, texts_of}
@@ -23,13 +25,20 @@ use Rattle.words.specs.Writing.{said_bytes}
 use Rattle.words.proofs.Laws.{word_law}
 use Rattle.round.specs.Round.{part_of, opening_for, opens_in, test_opened}
 use Rattle.asking.specs.Asking.{is_opened_of, test, settle}
-use Rattle.joined.specs.Cases.{AllHold, cases, three, two, NoPlan, Cheats, lot_of, asked, altered, answer, NotOpened, AnotherChance}
+use Rattle.soundness.specs.Texts.{find}
+use Rattle.soundness.proofs.Bounds.{sound-whole}
+use Rattle.soundness.proofs.Examples.{examples}
+use Rattle.joined.specs.Cases.{AllHold, cases, three, two, wins, NoPlan, Cheats, lot_of, asked, altered, answer, NotOpened, AnotherChance}
 
 none-two : NoPlan two
 none-two p fp =
     let f = fits-parts two p fp in
     let below = below_at 1 p f.1 in
     omega (arith, below 0 (omega arith), below 1 (omega arith), apart-at p two.pairs (record { a = 0; e = 0 }) f.2 0 (lit< tt))
+
+sound-two : sound two ≡ true
+unfolding rising
+sound-two = refl
 
 at_most_four : (f : Cheat) → Cheats trio f → lucky trio f 2 ≤ 4
 unfolding pairs_in
@@ -39,6 +48,17 @@ never-two : (f : Cheat) → Cheats two f → (r : ℕ) → 0 < r → lucky two f
 unfolding pairs_in
 never-two f long zero k = absurd (omega arith)
 never-two f long (suc r) k = omega (arith, caught two (tt, lit< tt, lit< tt) none-two f long (suc r), pow-suc 0 r)
+
+-- over the asker's steps
+few-trio : (H : List ℕ → List ℕ) (other : Other) → (collides H (find H other trio 2) ≡ true) ⊎ (wins H other trio 2 ≤ 4)
+few-trio H other = sound-whole H other trio examples.task same-pair.none 2
+
+never_two : (H : List ℕ → List ℕ) (other : Other) (r : ℕ) → 0 < r → (collides H (find H other two r) ≡ true) ⊎ (wins H other two r ≡ 0)
+never_two H other zero k = absurd (omega arith)
+never_two H other (suc r) k = elim (sound-whole H other two sound-two none-two (suc r)) [
+  | inl c ↦ inl c
+  | inr e ↦ inr (omega (arith, e, pow-suc 0 r))
+]
 
 -- The opening with another chance
 module _ (H : List ℕ → List ℕ) (sized : Sized H) (digest chances another : List ℕ) (long : length chances ≡ 96) (own : length another ≡ 32) where
@@ -90,4 +110,4 @@ another_chance H sized digest chances another long own differ =
 pub all-cases : AllHold cases
 unfolding AllHold up_to before asks count passes
 all-cases =
-    (refl, ((λ chances. refl), (refl, ((λ chances. refl), (same-pair.none, (refl, (refl, (refl, (at_most_four, (none-two, (never-two, (refl, (another_chance sha256 length-sha256, (another_chance, tt))))))))))))))
+    (refl, ((λ chances. refl), (refl, ((λ chances. refl), (same-pair.none, (refl, (refl, (refl, (at_most_four, (examples.four, (few-trio, (none-two, (never-two, (never_two, (refl, (another_chance sha256 length-sha256, (another_chance, tt)))))))))))))))))

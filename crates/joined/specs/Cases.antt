@@ -16,9 +16,15 @@ use Rattle.book.specs.Lengths.{round_text}
 use Rattle.lots.specs.Lots.{Lot}
 use Rattle.words.specs.Said.{Said, task, plan, boxes, ask, opened, end}
 use Rattle.words.specs.Writing.{said_bytes}
+use Rattle.round.specs.Line.{Other}
 use Rattle.round.specs.Over.{fault, out}
 use Rattle.round.specs.Round.{held, part_of, boxes_for, opening_for, opened_for, content_with}
 use Rattle.asking.specs.Asking.{Asked, test, settle}
+use Rattle.soundness.specs.Questioned.{asking_on}
+use Rattle.soundness.specs.Sound.{passes}
+use Rattle.soundness.specs.Texts.{find}
+use Rattle.soundness.specs.Examples as example
+use Rattle.soundness.specs.Examples.{tells, as_closed}
 
 -- what is computed, and what is expected; or a claim
 pub data Case : Type 1 where
@@ -60,6 +66,10 @@ NoPlan t = (p : Plan) → T (fits t p) → ⊥
 -- a cheating planner, with a number for each train
 abbrev pub Cheats : Task → Cheat → Type 0
 Cheats t f = (s : List Shown) → length (f s) ≡ t.trains
+
+-- in how many of all ways to ask the asker is content with this planner, by its steps
+abbrev pub wins : (List ℕ → List ℕ) → Other → Task → ℕ → ℕ
+wins H other t r = count (λ is. passes (asking_on H other t r is)) (cheat.asks (length t.pairs) r)
 
 -- the lot with order 2, 0, 1 and these chances
 abbrev pub lot_of : List ℕ → Lot
@@ -109,9 +119,14 @@ cases =
     gives (length (cheat.asks 3 2)) 9 ∷
     gives (lucky trio (λ _. 0 ∷ 1 ∷ 0 ∷ []) 2) 4 ∷
     claims ((f : Cheat) → Cheats trio f → lucky trio f 2 ≤ 4) ∷
+    -- the same of the asker's steps: the planner that closes these boxes in 4 of the 9, and any planner in no more, or two texts of one digest are at hand
+    gives (wins tells (example.cheat tells as_closed) trio 2) 4 ∷
+    claims ((H : List ℕ → List ℕ) (other : Other) → (collides H (find H other trio 2) ≡ true) ⊎ (wins H other trio 2 ≤ 4)) ∷
     -- one pair and one path: no plan fits, and no cheating planner passes a round
     claims (NoPlan two) ∷
     claims ((f : Cheat) → Cheats two f → (r : ℕ) → 0 < r → lucky two f r ≡ 0) ∷
+    -- the same of the asker's steps: no planner passes in any way to ask, or two texts of one digest are at hand
+    claims ((H : List ℕ → List ℕ) (other : Other) (r : ℕ) → 0 < r → (collides H (find H other two r) ≡ true) ⊎ (wins H other two r ≡ 0)) ∷
     -- three pairs: 120 rounds
     gives (40 * length three.pairs) 120 ∷
     -- an opening with another chance, with SHA-256 and with any function to 32 numbers in its place
