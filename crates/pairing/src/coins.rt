@@ -42,9 +42,7 @@ impl Plans {
             return Err(Fault::Shape);
         }
         pair_at(&self.task, question)?;
-        let Some(order) = Order::new(&coin[..paths]) else {
-            return Err(Fault::BadNumber);
-        };
+        let order = Order::new(&coin[..paths]).ok_or(Fault::BadNumber)?;
         self.order_for(question, &order)
     }
 
@@ -55,9 +53,6 @@ impl Plans {
         if order.as_slice().len() != self.task.paths as usize {
             return Err(Fault::BadNumber);
         }
-        let Some(paired) = order.paired(self.partners(pair)) else {
-            return Err(Fault::BadNumber);
-        };
-        Ok(paired)
+        order.paired(self.partners(pair)).ok_or(Fault::BadNumber)
     }
 }
