@@ -1,11 +1,11 @@
 -- The steps of drawing: a value is used, passed over, or not all there; and an exchange before those that are left. Assumes nothing.
-use Rattle.std.proofs.Common.{◌≡◌, ℕ, zero, suc, ◌+◌, ◌-◌, ◌*◌, ◌%◌, ◌^◌, ◌<◌, ◌≤◌, Bool, true, false, cond, ltb, leb, List, [], ◌∷◌, ◌++◌, length, take, drop, set, None, Option, sym, refl, ap, ◌∙◌, subst, le_trans, add_assoc, add-one, arith, lit≤}
+use Rattle.std.proofs.Common.{◌≡◌, ℕ, zero, suc, ◌+◌, ◌-◌, ◌*◌, ◌%◌, ◌^◌, ◌<◌, ◌≤◌, Bool, true, false, cond, ltb, leb, List, [], ◌∷◌, ◌++◌, length, take, drop, set, None, Some, Option, sym, refl, ap, ◌∙◌, subst, le_trans, add_assoc, add-one, arith, lit≤}
 use Rattle.std.proofs.lemmas.List.{drop_more, drop-drop, take_more_set}
 use Rattle.std.proofs.lemmas.Bool.{lt-ltb, le-ltb, le-leb, leb-true, and_from}
 use Rattle.paths.specs.Plan.{at, all_below, different}
 use Rattle.paths.specs.Order.{is_order, order_of as codeOrder}
 use Rattle.paths.specs.declared.order.Order.{Order}
-use Rattle.std.specs.Option.{option_map}
+use Rattle.std.specs.Option.{IsSome, option_map}
 use Rattle.std.specs.Bool.{then_some}
 use Rattle.std.specs.Int.{w32, from_be_bytes}
 use Rattle.paths.specs.Cheat.{up_to}
@@ -150,15 +150,18 @@ order_had k bs h l = go (draw (2 ^ 32) (order_moduli k) (values_of 256 bs)) (dra
     go (drew ds left) w e = let f : order_of k ds ≡ h.what = cc in subst (IsOrder k) f (order_is k ds w)
     go short w e = let z : ◌≡◌ {A = ℕ} 0 1 = cc in absurd (omega arith)
 
--- so the code that makes an order of the row does not fail
+some_order : (r : Option Order) (row : List ℕ) → option_map codeOrder r ≡ Some row → IsSome r
+some_order None row e = cc
+some_order (Some x) row e = refl
+
+-- so an order is made of the row
 pub order_made : (k : ℕ) (up row left bs : List ℕ) (r : Option Order) → 1 ≤ k → k ≤ 64 → up ≡ up_to k → got record { what = row; left = left } ≡ exchanged_in (length up) up bs →
-    option_map codeOrder r ≡ then_some (is_order row) row → r ≡ None → ⊥
-order_made k up row left bs r l m u e n o =
+    option_map codeOrder r ≡ then_some (is_order row) row → IsSome r
+order_made k up row left bs r l m u e n =
     let h = order_had k bs (record { what = row; left = left }) (le_trans m (lit≤ tt)) (e ∙ ap (λ xs. exchanged_in (length xs) xs bs) u ∙ ap (λ n. exchanged_in n (up_to k) bs) (length-up_to k)) in
     let w = h.0 in
     let i : is_order row ≡ true = simp w (and_from _ _ (and_from _ _ (le-leb 1 k l) (le-leb k 64 m)) (and_from _ _ (is_true (different row) h.1) (is_true (all_below k row) h.2))) in
-    let z : ◌≡◌ {A = ℕ} 0 1 = cc in
-    omega arith
+    some_order r row (n ∙ ap (λ b. then_some b row) i)
 
 -- and the other way: a lot that was had
 pub chances_had : (n : ℕ) (order bs : List ℕ) (h : Had Lot) → chances_in n order bs ≡ got h →

@@ -12,7 +12,8 @@ use super::orders::draw_order;
 use paths::Order;
 use tasks::{Fault, Task};
 
-// An order of the paths, and the chances, 32 bytes for each train.
+// An order of the paths, and the chances, 32 bytes for each train. They are flat bytes, as they were drawn, and as `close_all` of `boxes` takes them, which
+// C calls too.
 #[derive(Clone, Copy)]
 pub struct Lot<'a> {
     pub order: Order,
@@ -25,13 +26,13 @@ fn chances_in(trains: u16, order: Order, bytes: &[u8]) -> Result<Had<'_, Lot<'_>
     ensures chances { IfOk result (λ h. length h.what.chances.now ≡ 32 * trains) }
     ensures left { IfOk result (λ h. EndOf bytes.now h.left.now) }
 {
-    match bytes.split_at_checked(32 * trains as usize) {
-        Some((chances, left)) => Ok(Had {
-            what: Lot { order, chances },
-            left,
-        }),
-        None => Err(Fault::DrawnOut),
-    }
+    let (chances, left) = bytes
+        .split_at_checked(32 * trains as usize)
+        .ok_or(Fault::DrawnOut)?;
+    Ok(Had {
+        what: Lot { order, chances },
+        left,
+    })
 }
 
 // The lot of a round, or fault 11 where the bytes are too few for the order, with all values that are passed over, and for every chance. Lots are, as coins,

@@ -50,8 +50,8 @@ pub(crate) fn draw_order(paths: u8, bytes: &[u8]) -> Result<Had<'_, Order>, Faul
     let row = &mut numbers[0..paths as usize];
     count_up(row);
     let left = draw_exchanges(row, bytes)?;
-    let Some(order) = Order::new(row) else {
-        unreachable()
-    };
-    Ok(Had { what: order, left })
+    Ok(Had {
+        what: Order::new(row).unwrap(),
+        left,
+    })
 }

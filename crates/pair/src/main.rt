@@ -3,13 +3,12 @@
 
 use arguments::{Arguments, Wrong};
 use command::{
-    Ending, Input, Problem, Usage, exit_code, load_fitting_plan, load_task,
-    read_arguments,
+    Ending, Input, Problem, Usage, exit_code, load_fitting_plan, load_task, read_arguments,
 };
 use pairing::{Plans, ask_in};
 use std::io::{BufWriter, Write};
 use std::process::ExitCode;
-use tasks::{Fault, MOST_ROUNDS, Task};
+use tasks::{Fault, MOST_ROUNDS};
 
 // The length of a word that asks for a pair.
 const ASK_BYTES: u64 = 7;
@@ -72,10 +71,6 @@ fn next_question(
     Ok(Some(question))
 }
 
-fn coin_bytes(task: &Task) -> u64 {
-    task.paths as u64 + 32 * task.trains as u64
-}
-
 // The first plan's coin of a round, made into the second plan's.
 fn next_coin(
     plans: &Plans,
@@ -84,7 +79,7 @@ fn next_coin(
     coins: &mut Input,
     bytes: &mut Vec<u8>,
 ) -> Result<(), Problem> {
-    read(coins, coin_bytes(&plans.task), bytes)?;
+    read(coins, plans.coin_length() as u64, bytes)?;
     plans
         .pair_coin(question, bytes.as_mut_slice())
         .map_err(|fault| coins.in_round(fault, round))

@@ -1,11 +1,14 @@
 -- What each task of the code guarantees, and so what is promised of two plans that fit it.
-use Rattle.std.proofs.Common.{◌≡◌, ℕ, ◌<◌, Bool, true, false, cond, ◌&&◌, T, ltb, List, [], ◌∷◌, length, Some, None, vec_items, sym, refl, ap, ◌∙◌, arith}
+use Rattle.std.proofs.Common.{◌≡◌, ℕ, ◌<◌, Bool, true, false, cond, ◌&&◌, T, ltb, List, [], ◌∷◌, length, Option, Some, None, ok_or, vec_items, sym, refl, ap, ◌∙◌, arith}
 use lib.Ieee.Fits.{and_i}
 use lib.ListN.{length-map}
-use Rattle.std.proofs.lemmas.Bool.{and_parts, and_from, lt-ltb, ltb-true, ne_eqb}
+use Rattle.std.proofs.lemmas.Bool.{and_parts, and_from, lt-ltb, ltb-true, ne_eqb, eq-eqb}
 use Rattle.std.specs.Bool.{then_some}
+use Rattle.std.specs.Option.{option_map}
 use Rattle.paths.specs.Plan.{Pair, Task, Plan, Good, pairs_in, fits}
 use Rattle.paths.specs.Show.{pair_at}
+use Rattle.paths.specs.Order.{order_of}
+use Rattle.paths.specs.declared.order.Order.{Order}
 use Rattle.paths.specs.Partners.{are_two, paired}
 use Rattle.paths.specs.declared.partners.Partners.{Partners}
 use Rattle.paths.proofs.Paired.{pair-paths}
@@ -16,8 +19,9 @@ use Rattle.tasks.specs.Model.{task_of, plan_of}
 use Rattle.tasks.specs.Pair.{pair_of}
 use Rattle.tasks.specs.Task.{is_there, rises, rising}
 use Rattle.pairing.specs.declared.plans.Plans.{Plans}
-use Rattle.tasks.specs.Reading.{got, refused}
-use Rattle.pairing.specs.Coins.{Promised, paired_order}
+use Rattle.tasks.specs.declared.fault.Fault.{Fault}
+use Rattle.tasks.specs.Reading.{got, refused, gives}
+use Rattle.pairing.specs.Coins.{Promised, order_for, paired_order}
 use Rattle.pairing.specs.Plans.{both_of}
 use Rattle.fitting.specs.Pairs.{asked_pair}
 use Rattle.pairing.specs.Pairs.{paths_of, partners_for}
@@ -61,6 +65,10 @@ asked_is t i x e = go (ltb i (length t.pairs)) e
     go true e = (refl, cc)
     go false e = let z : ◌≡◌ {A = ℕ} 0 1 = cc in absurd (omega arith)
 
+got_of : (r : Option Order) (f : Fault) (ys : List ℕ) → option_map order_of r ≡ Some ys → gives order_of (ok_or r f) ≡ got ys
+got_of None f ys e = cc
+got_of (Some o) f ys e = cc
+
 -- of two plans: pair x is the one asked for, and the order xs has the task's number of paths
 module _ (s : Plans) (i : ℕ) (x : Pair) (asked : got x ≡ asked_pair (task_of s.task) i) (ps : Partners) (are : ps ≡ partners_for (plan_of s.first) (plan_of s.second) x) (xs : List ℕ) (long : length xs ≡ s.task.paths) where
   abbrev its : List ℕ
@@ -72,5 +80,5 @@ module _ (s : Plans) (i : ℕ) (x : Pair) (asked : got x ≡ asked_pair (task_of
       ap (λ (y : Partners). paired y xs) (are ∙ ap (partners_for (plan_of s.first) (plan_of s.second)) (sym a.1))
       ∙ order-paired (task_of s.task) (task_good s.task) _ _ s.first_fits s.second_fits i (ltb-true _ _ a.0) xs long
 
-  pub order-never : {P : Type 0} → None ≡ paired ps xs → P
-  order-never e = let h = has_pair in let z : ◌≡◌ {A = ℕ} 0 1 = cc in absurd (omega arith)
+  pub order_given : (r : Option Order) (f : Fault) → option_map order_of r ≡ paired ps xs → gives order_of (ok_or r f) ≡ order_for (both_of s) i xs
+  order_given r f e = rw (← asked, eq-eqb (length xs) s.task.paths long) (got_of r f its (e ∙ has_pair))

@@ -1,5 +1,5 @@
 // Coins of the first plan made into coins of the second that show the same.
-ghost use Rattle.std.specs.Prelude.{◌≡◌, OnOk};
+ghost use Rattle.std.specs.Prelude.{◌≡◌, ◌+◌, ◌*◌, OnOk};
 ghost use Rattle.paths.specs.Order.{order_of};
 ghost use Rattle.tasks.specs.Reading.{gives};
 ghost use Rattle.pairing.specs.Coins.{order_for, order_in, coin_for, left_by, Goes, Promised};
@@ -11,13 +11,24 @@ use paths::Order;
 use tasks::Fault;
 
 impl Plans {
+    // The bytes of a coin: one for each path, and 32 for each train.
+    pub fn coin_length(&self) -> usize
+        ensures { result ≡ self.now.task.paths + 32 * self.now.task.trains }
+    {
+        self.task.paths as usize + 32 * self.task.trains as usize
+    }
+
     // The order of the second plan's coin that goes with a coin of the first plan, where the pair with this number is asked for.
     #[tactic(auto, using(crate::proofs::Promises::promised))]
     pub fn pair_order(&self, question: u16, order: &Order) -> Result<Order, Fault>
         ensures answer { gives order_of result ≡ order_for (both_of self.now) question (order_of order.now) }
         ensures promise { Promised (both_of self.now) }
     {
-        self.order_for(question, order)
+        let pair = pair_at(&self.task, question)?;
+        if order.as_slice().len() != self.task.paths as usize {
+            return Err(Fault::BadNumber);
+        }
+        order.paired(self.partners(pair)).ok_or(Fault::BadNumber)
     }
 
     // Makes the bytes of a coin of the first plan, an order and the chances, those of the second plan's coin that goes with it, where the pair with this
@@ -37,27 +48,11 @@ impl Plans {
     fn order_in(&self, question: u16, coin: &[u8]) -> Result<Order, Fault>
         ensures { gives order_of result ≡ order_in (both_of self.now) question coin.now }
     {
-        let paths = self.task.paths as usize;
-        if coin.len() != paths + 32 * self.task.trains as usize {
+        if coin.len() != self.coin_length() {
             return Err(Fault::Shape);
         }
         pair_at(&self.task, question)?;
-        let Some(order) = Order::new(&coin[..paths]) else {
-            return Err(Fault::BadNumber);
-        };
-        self.order_for(question, &order)
-    }
-
-    fn order_for(&self, question: u16, order: &Order) -> Result<Order, Fault>
-        ensures { gives order_of result ≡ order_for (both_of self.now) question (order_of order.now) }
-    {
-        let pair = pair_at(&self.task, question)?;
-        if order.as_slice().len() != self.task.paths as usize {
-            return Err(Fault::BadNumber);
-        }
-        let Some(paired) = order.paired(self.partners(pair)) else {
-            return Err(Fault::BadNumber);
-        };
-        Ok(paired)
+        let order = Order::new(&coin[..self.task.paths as usize]).ok_or(Fault::BadNumber)?;
+        self.pair_order(question, &order)
     }
 }
