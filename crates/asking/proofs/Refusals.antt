@@ -17,11 +17,12 @@ use Rattle.paths.proofs.Same.{same_decides}
 use Rattle.lots.specs.Lots.{Had, on_bytes, drawn, had_by, question_in}
 use Rattle.words.specs.Said.{Said, task, plan, boxes, ask, opened, end}
 use Rattle.words.specs.Reading.{read_word}
+use Rattle.words.specs.Awaited.{on_boxes}
 use Rattle.words.specs.Writing.{said_bytes, is_got, is_said, is_round}
 use Rattle.words.proofs.Laws.{word_law}
 use Rattle.round.specs.Round.{opens_in, content_with, test_opened}
 use Rattle.round.proofs.Rounds.{rising_in}
-use Rattle.asking.specs.Asking.{on_task, on_boxes}
+use Rattle.asking.specs.Asking.{on_task}
 use Rattle.asking.specs.Conduct.{NotAwaited, no_word, other_word, NoBoxes, NoTask, no_task_word, other_task, Contents, Exact, NotContent, unread, bad}
 
 -- too few bytes are fault 11

@@ -16,10 +16,11 @@ use Rattle.book.specs.Lengths.{round_text}
 use Rattle.lots.specs.Lots.{Had, question_in}
 use Rattle.words.specs.Said.{boxes, ask, opened, end}
 use Rattle.words.specs.Reading.{read_word}
+use Rattle.words.specs.Awaited.{on_boxes}
 use Rattle.words.specs.Writing.{said_bytes, is_got}
 use Rattle.round.specs.Over.{Over, content, fault, task_fault, Leads, on, out}
 use Rattle.round.specs.Round.{test_opened}
-use Rattle.asking.specs.Asking.{Ready, led, turn, begun, on_task, on_boxes, is_opened_of, settled}
+use Rattle.asking.specs.Asking.{Ready, led, turn, begun, on_task, is_opened_of, settled}
 use Rattle.round.specs.Line.{Event, sent, heard, Other, SaysBytes, Ran}
 use Rattle.asking.specs.Run.{Gone, going_on, asked, boxed, left_in, run}
 use Rattle.asking.specs.Conduct.{NoTask, Contents, Whole, no_task, own_task, ends1, Conducted, Conduct, kept, text, ends_by, From, all_rounds, drawn_out, no_boxes, end0, end1}

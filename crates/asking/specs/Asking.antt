@@ -9,6 +9,7 @@ use Rattle.book.specs.Lengths.{round_text}
 use Rattle.lots.specs.Lots.{question_in}
 use Rattle.words.specs.Said.{Said, task, plan, boxes, ask, opened, end}
 use Rattle.words.specs.Reading.{read_word}
+use Rattle.words.specs.Awaited.{on_boxes}
 use Rattle.words.specs.Writing.{said_bytes, is_got}
 use Rattle.round.specs.Over.{content, fault, task_fault, Leads, on, out}
 use Rattle.round.specs.Round.{test_opened}
@@ -72,15 +73,7 @@ meet H s bs = begun H s (and_then (read_word s.task bs) (on_task (task_bytes s.t
 abbrev pub draw : Ready → List ℕ → Leads Drawn
 draw s bytes = led s (and_then (question_in s.task bytes) (λ h. got record { ready = s; pair = h.what }))
 
--- the Boxes of this round
-abbrev pub on_boxes : ℕ → Said → Got Looked
-on_boxes n (boxes r ds) = cond (r == n) (got tt) (refused 6)
-on_boxes n (task bs) = refused 6
-on_boxes n (plan p) = refused 6
-on_boxes n (ask r i) = refused 6
-on_boxes n (opened r x y) = refused 6
-on_boxes n (end r c) = refused 6
-
+-- the Boxes of this round are answered by the question
 abbrev pub question : Drawn → List ℕ → Leads Asked
 question s bs =
     let r = s.ready in

@@ -3,8 +3,9 @@ ghost use Rattle.std.specs.Prelude.{◌≡◌};
 ghost use Rattle.tasks.specs.Model.{task_of};
 ghost use Rattle.tasks.specs.Reading.{looks, and_then};
 ghost use Rattle.words.specs.Reading.{read_word};
+ghost use Rattle.words.specs.Awaited.{on_boxes};
 ghost use Rattle.round.specs.Over.{leads};
-ghost use Rattle.asking.specs.Asking.{draw, on_boxes, question};
+ghost use Rattle.asking.specs.Asking.{draw, question};
 ghost use Rattle.asking.specs.Model.{ready_of, drawn_of, asked_of};
 
 use super::asked::Asked;
@@ -13,7 +14,7 @@ use super::ready::Ready;
 use lots::draw_question;
 use round::Over;
 use tasks::Fault;
-use words::{Word, ask_bytes, read_word};
+use words::{ask_bytes, read_word};
 
 impl Ready {
     // The question of this round, from the bytes that are drawn.
@@ -30,13 +31,7 @@ impl Ready {
     fn test_boxes(&self, word: &[u8]) -> Result<(), Fault>
         ensures { looks result ≡ and_then (read_word (task_of self.now.task) word.now) (on_boxes self.now.round) }
     {
-        let Word::Boxes(said, _) = read_word(&self.task, word)? else {
-            return Err(Fault::NotAwaited);
-        };
-        if said != self.round {
-            return Err(Fault::NotAwaited);
-        }
-        Ok(())
+        read_word(&self.task, word)?.boxes_of(self.round)
     }
 }
 

@@ -43,7 +43,13 @@ impl Asked {
     {
         let Drawn { ready, pair } = &self.drawn;
         let word = read_word(&ready.task, word)?;
-        test_opened(&ready.task, ready.round, *pair, behind_head(&self.boxes), word)
+        test_opened(
+            &ready.task,
+            ready.round,
+            *pair,
+            behind_head(&self.boxes),
+            word,
+        )
     }
 
     // Whatever came in answer, no bytes where the input ended, there is an End to send.

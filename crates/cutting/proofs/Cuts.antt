@@ -6,7 +6,8 @@ use Rattle.tasks.specs.Reading.{got, refused, and_then}
 use Rattle.boxes.specs.Box.{Opening}
 use Rattle.words.specs.Said.{boxes, ask, opened, end}
 use Rattle.words.specs.Reading.{read_word}
-use Rattle.cutting.specs.Cutting.{Asked, Round, Awaits, for_boxes, for_ask, for_answer, for_end, for_nothing, Heard, waits, closes, on_boxes, on_ask, on_answer, on_end, answered, awaited, hear, behind, also_round, cut_on, cut_from}
+use Rattle.words.specs.Awaited.{on_boxes, on_ask, on_end}
+use Rattle.cutting.specs.Cutting.{Asked, Round, Awaits, for_boxes, for_ask, for_answer, for_end, for_nothing, Heard, waits, closes, on_answer, answered, awaited, hear, behind, also_round, cut_on, cut_from}
 
 module _ (t : Task) (n : ℕ) (few : n < 2 ^ 24) where
   kept : (a : Awaits) (w : List ℕ) (h : Heard) → awaited t n a w ≡ got h → hear t n a w ≡ got h

@@ -7,8 +7,9 @@ use Rattle.tasks.specs.Reading.{Got, Looked, got, refused, and_then, read_task, 
 use Rattle.tasks.proofs.Units.{then_got, cond-got}
 use Rattle.words.specs.Said.{Said, task, plan, boxes, ask, opened, end}
 use Rattle.words.specs.Reading.{exactly, read_word}
+use Rattle.words.specs.Awaited.{on_boxes, on_ask, on_end}
 use Rattle.words.proofs.Laws.{by_kind, unknown_kind}
-use Rattle.cutting.specs.Cutting.{Asked, Round, Awaits, for_boxes, for_ask, for_answer, for_end, for_nothing, Heard, waits, closes, Answer, is_opened, is_not_content, on_boxes, on_ask, on_answer, on_end, answered, awaited, hear, behind, Cut, cut_into, fault_in, also_round, cut_short, cut_on, cut_from, if_any, onto, all_words}
+use Rattle.cutting.specs.Cutting.{Asked, Round, Awaits, for_boxes, for_ask, for_answer, for_end, for_nothing, Heard, waits, closes, Answer, is_opened, is_not_content, on_answer, answered, awaited, hear, behind, Cut, cut_into, fault_in, also_round, cut_short, cut_on, cut_from, if_any, onto, all_words}
 
 module _ (t : Task) where
   -- how long the bytes are that were read as a word of a round

@@ -1,10 +1,11 @@
 -- How words are cut into rounds. Assumes nothing.
-use Rattle.std.specs.Prelude.{ℕ, ◌+◌, ◌^◌, Bool, false, cond, not, ◌&&◌, List, [], ◌∷◌, ◌==◌, nat_lt}
+use Rattle.std.specs.Prelude.{ℕ, ◌+◌, ◌^◌, Bool, true, false, cond, not, ◌&&◌, List, [], ◌∷◌, ◌==◌, nat_lt}
 use Rattle.paths.specs.Plan.{Task}
-use Rattle.tasks.specs.Reading.{Got, Looked, got, refused, and_then}
+use Rattle.tasks.specs.Reading.{Got, got, refused, and_then}
 use Rattle.book.specs.Lengths.{round_text}
 use Rattle.words.specs.Said.{Said, task, plan, boxes, ask, opened, end}
 use Rattle.words.specs.Reading.{read_word}
+use Rattle.words.specs.Awaited.{on_boxes, on_ask, on_end}
 
 -- Boxes and Ask of a round, as they came, and the pair that the Ask names
 pub record Asked : Type 0 where
@@ -30,30 +31,20 @@ pub data Awaits : Type 0 where
   for_end : Asked → List ℕ → Awaits
   for_nothing : Awaits
 
+-- no word of a round has come: its Boxes are awaited, or nothing is
+abbrev pub between : Awaits → Bool
+between for_boxes = true
+between (for_ask b) = false
+between (for_answer a) = false
+between (for_end a o) = false
+between for_nothing = true
+
 -- what a word leads to
 pub data Heard : Type 0 where
   waits : Awaits → Heard
   closes : Round → Heard
 
--- The words of round n, each where it is awaited; another word, or one of another round, is fault 6
-
-abbrev pub on_boxes : ℕ → Said → Got Looked
-on_boxes n (boxes r ds) = cond (r == n) (got tt) (refused 6)
-on_boxes n (task bs) = refused 6
-on_boxes n (plan p) = refused 6
-on_boxes n (ask r i) = refused 6
-on_boxes n (opened r x y) = refused 6
-on_boxes n (end r c) = refused 6
-
-abbrev pub on_ask : ℕ → Said → Got ℕ
-on_ask n (ask r i) = cond (r == n) (got i) (refused 6)
-on_ask n (task bs) = refused 6
-on_ask n (plan p) = refused 6
-on_ask n (boxes r ds) = refused 6
-on_ask n (opened r x y) = refused 6
-on_ask n (end r c) = refused 6
-
--- an Opened, whether it is good or not, or else at once an End with 0
+-- The answer in round n: an Opened, whether it is good or not, or else at once an End with 0; another word, or one of another round, is fault 6
 pub data Answer : Type 0 where
   is_opened : Answer
   is_not_content : Answer
@@ -65,14 +56,6 @@ on_answer n (task bs) = refused 6
 on_answer n (plan p) = refused 6
 on_answer n (boxes r ds) = refused 6
 on_answer n (ask r i) = refused 6
-
-abbrev pub on_end : ℕ → Said → Got Bool
-on_end n (end r c) = cond (r == n) (got c) (refused 6)
-on_end n (task bs) = refused 6
-on_end n (plan p) = refused 6
-on_end n (boxes r ds) = refused 6
-on_end n (ask r i) = refused 6
-on_end n (opened r x y) = refused 6
 
 abbrev pub answered : Asked → List ℕ → Answer → Heard
 answered a w is_opened = waits (for_end a w)

@@ -1,9 +1,9 @@
 // The words of a round, each where it is awaited.
 ghost use Rattle.std.specs.Prelude.{◌≡◌, ◌^◌, ◌<◌, OnOk};
 ghost use Rattle.tasks.specs.Model.{task_of};
-ghost use Rattle.tasks.specs.Reading.{gives, looks};
+ghost use Rattle.tasks.specs.Reading.{gives};
 ghost use Rattle.words.specs.Model.{said};
-ghost use Rattle.cutting.specs.Cutting.{on_boxes, on_ask, on_answer, on_end, answered, awaited, hear};
+ghost use Rattle.cutting.specs.Cutting.{on_answer, answered, awaited, hear};
 ghost use Rattle.cutting.specs.Laws.{Cuts};
 ghost use Rattle.cutting.specs.Phases.{asked_of, awaits_of, answer_of, heard_of};
 
@@ -11,32 +11,7 @@ use super::phases::{Answer, Asked, Awaits, Heard, Round};
 use tasks::{Fault, MOST_ROUNDS, Task};
 use words::{Word, read_word};
 
-// What was read, where it is awaited, is taken apart by `let .. else`: a form that the project keeps here. Both sides test their words by code of their own,
-// since the judge stands on neither.
-fn on_boxes(round: u32, word: Word) -> Result<(), Fault>
-    ensures { looks result ≡ on_boxes round (said word.entry) }
-{
-    let Word::Boxes(said, _) = word else {
-        return Err(Fault::NotAwaited);
-    };
-    if said != round {
-        return Err(Fault::NotAwaited);
-    }
-    Ok(())
-}
-
-fn on_ask(round: u32, word: Word) -> Result<u16, Fault>
-    ensures { gives (λ i. i) result ≡ on_ask round (said word.entry) }
-{
-    let Word::Ask(said, pair) = word else {
-        return Err(Fault::NotAwaited);
-    };
-    if said != round {
-        return Err(Fault::NotAwaited);
-    }
-    Ok(pair)
-}
-
+// An Opened, or an End with 0 in its place.
 fn on_answer(round: u32, word: Word) -> Result<Answer, Fault>
     ensures { gives answer_of result ≡ on_answer round (said word.entry) }
 {
@@ -45,18 +20,6 @@ fn on_answer(round: u32, word: Word) -> Result<Answer, Fault>
         Word::End(said, content) if said == round && !content => Ok(Answer::NotContent),
         _ => Err(Fault::NotAwaited),
     }
-}
-
-fn on_end(round: u32, word: Word) -> Result<bool, Fault>
-    ensures { gives (λ c. c) result ≡ on_end round (said word.entry) }
-{
-    let Word::End(said, content) = word else {
-        return Err(Fault::NotAwaited);
-    };
-    if said != round {
-        return Err(Fault::NotAwaited);
-    }
-    Ok(content)
 }
 
 fn answered(asked: Asked, word: Vec<u8>, answer: Answer) -> Heard
@@ -80,11 +43,11 @@ fn awaited(task: &Task, round: u32, awaits: Awaits, word: Vec<u8>) -> Result<Hea
     let said = read_word(task, &word)?;
     match awaits {
         Awaits::Boxes => {
-            on_boxes(round, said)?;
+            said.boxes_of(round)?;
             Ok(Heard::Waits(Awaits::Ask(word)))
         }
         Awaits::Ask(boxes) => {
-            let pair = on_ask(round, said)?;
+            let pair = said.ask_of(round)?;
             Ok(Heard::Waits(Awaits::Answer(Asked {
                 boxes,
                 ask: word,
@@ -96,7 +59,7 @@ fn awaited(task: &Task, round: u32, awaits: Awaits, word: Vec<u8>) -> Result<Hea
             Ok(answered(asked, word, answer))
         }
         Awaits::End(asked, opened) => {
-            let content = on_end(round, said)?;
+            let content = said.end_of(round)?;
             Ok(Heard::Closes(Round {
                 asked,
                 opened: Some(opened),

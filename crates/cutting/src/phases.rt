@@ -1,4 +1,7 @@
 // Which word of a round is awaited, and what came of the round so far. Words are kept as they came.
+ghost use Rattle.std.specs.Prelude.{◌≡◌};
+ghost use Rattle.cutting.specs.Cutting.{between};
+ghost use Rattle.cutting.specs.Phases.{awaits_of};
 
 // Boxes and Ask, and the pair that the Ask names.
 #[derive(Drop)]
@@ -16,6 +19,15 @@ pub enum Awaits {
     Answer(Asked),
     End(Asked, Vec<u8>),
     Nothing,
+}
+
+impl Awaits {
+    // Whether no word of a round has come: before its Boxes, and after an End with 0.
+    pub fn is_between(&self) -> bool
+        ensures { result ≡ between (awaits_of self.now) }
+    {
+        matches!(self, Awaits::Boxes | Awaits::Nothing)
+    }
 }
 
 // A round that is closed.

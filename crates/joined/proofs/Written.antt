@@ -1,5 +1,5 @@
 -- The words of a round that a plan and a lot give are read as they were written, and the Opened is accepted. Assumes nothing.
-use Rattle.std.proofs.Common.{◌≡◌, ℕ, ◌*◌, ◌^◌, ◌<◌, ◌≤◌, Bool, true, T, eqb, ltb, List, length, refl, ap, ◌∙◌, arith, length-drop, length-take}
+use Rattle.std.proofs.Common.{◌≡◌, ℕ, ◌*◌, ◌^◌, ◌<◌, ◌≤◌, Bool, true, cond, T, eqb, ltb, List, length, refl, ap, ◌∙◌, arith, length-drop, length-take}
 use Rattle.std.proofs.lemmas.List.{length-map}
 use Rattle.std.proofs.lemmas.Bool.{lt-ltb, eq-eqb, eqb-true, ltb-true, and_parts, and_from}
 use Rattle.paths.specs.Plan.{Task, Plan, Good, at, fits, all_below}
@@ -8,7 +8,8 @@ use Rattle.tasks.specs.Reading.{Got, got, refused, and_then}
 use Rattle.tasks.specs.Task.{sound, lowest}
 use Rattle.tasks.specs.Writing.{task_bytes}
 use Rattle.tasks.proofs.TaskLaws.{guarantees, task_law}
-use Rattle.tasks.proofs.Units.{cond-got}
+use Rattle.tasks.proofs.Units.{then_got, cond-got}
+use Rattle.fitting.specs.Pairs.{asked_pair}
 use Rattle.book.specs.Chain.{Sized}
 use Rattle.boxes.specs.Box.{boxes_of}
 use Rattle.boxes.proofs.Boxes.{laid}
@@ -33,11 +34,13 @@ ask_had t n i (got (boxes r ds)) e = cc
 ask_had t n i (got (opened r x y)) e = cc
 ask_had t n i (got (end r c)) e = cc
 ask_had t n i (got (ask r j)) e =
-    let a = cond-got (eqb r n) 6 _ i e in
-    let b = cond-got (ltb j (length t.pairs)) 7 _ i a.1 in
+    let p = then_got (cond (eqb r n) (got j) (refused 6)) (λ j. and_then (asked_pair t j) (λ _. got j)) i e in
+    let q = then_got (asked_pair t p.0) (λ _. got p.0) i p.2 in
+    let a = cond-got (eqb r n) 6 _ p.0 p.1 in
     let r-is = eqb-true r n a.0 in
-    let j-is : j ≡ i = cc b.1 in
-    (cc, omega (arith, ltb-true _ _ b.0))
+    let j-is : j ≡ p.0 = cc a.1 in
+    let i-is : p.0 ≡ i = cc q.2 in
+    (cc, omega (arith, ltb-true _ _ (cond-got (ltb p.0 (length t.pairs)) 7 _ q.0 q.1).0))
 
 -- and an Ask of this round for a pair that is there is answered
 pub asked_for : (t : Task) (n i : ℕ) → i < length t.pairs → on_ask t n (ask n i) ≡ got i

@@ -1,6 +1,5 @@
 // The words of a showing, read from their file one by one, and the drawn bytes with them.
 use command::{Input, Problem};
-use cutting::Awaits;
 use judging::{Judge, Verdict};
 use keeping::Drawn;
 use line::read_word_from;
@@ -44,15 +43,15 @@ impl Hearing {
         Ok(word)
     }
 
-    // Where the word at hand is the first of a round, the drawn bytes of that round, if they are handed over.
+    // Where no word of a round has come, the drawn bytes of the next round, if they are handed over.
     fn fill(&mut self, judge: &Judge) -> Result<(), Problem> {
         let Some(drawn) = &mut self.drawn else {
             return Ok(());
         };
-        match judge.awaits {
-            Awaits::Boxes | Awaits::Nothing => drawn.lot(&judge.task),
-            _ => Ok(()),
+        if !judge.awaits.is_between() {
+            return Ok(());
         }
+        drawn.lot(&judge.task)
     }
 
     fn drawn(&self) -> &[u8] {

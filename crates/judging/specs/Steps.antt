@@ -7,7 +7,7 @@ use Rattle.tasks.specs.Writing.{task_bytes}
 use Rattle.fitting.specs.Testing.{tested}
 use Rattle.book.specs.Chain.{next_digest, after}
 use Rattle.judging.specs.Verdict.{Content, content_all, Redrawn, Verdict, bad_words, other_words, judged, first_of, first_drawn}
-use Rattle.cutting.specs.Cutting.{Round, text_of, Awaits, for_boxes, for_ask, for_answer, for_end, for_nothing, Heard, waits, closes, hear, behind}
+use Rattle.cutting.specs.Cutting.{Round, text_of, Awaits, for_boxes, between, Heard, waits, closes, hear, behind}
 use Rattle.judging.specs.Judging.{content_in, redrawn_in, left_over, nothing_yet}
 
 -- the judge in round n, which is also how many rounds are closed: the book's digest, the first findings, and what is awaited
@@ -64,13 +64,9 @@ went H s drawn (refused f) = told (bad_words f s.round)
 abbrev pub step : (List ℕ → List ℕ) → Judge → List ℕ → List ℕ → Goes
 step H s w drawn = went H s drawn (hear s.task s.round s.awaits w)
 
--- no more words, and this is to be the last digest
+-- no more words, and this is to be the last digest: words that end in mid-round are fault 1
 abbrev pub ended : Judge → List ℕ → Awaits → Verdict
-ended s digest for_boxes = cond (same_row s.digest digest) (judged s.round s.content s.redrawn) other_words
-ended s digest for_nothing = cond (same_row s.digest digest) (judged s.round s.content s.redrawn) other_words
-ended s digest (for_ask b) = bad_words 1 s.round
-ended s digest (for_answer a) = bad_words 1 s.round
-ended s digest (for_end a o) = bad_words 1 s.round
+ended s digest a = cond (between a) (cond (same_row s.digest digest) (judged s.round s.content s.redrawn) other_words) (bad_words 1 s.round)
 
 abbrev pub finish : Judge → List ℕ → Verdict
 finish s digest = ended s digest s.awaits

@@ -23,7 +23,7 @@ use round::{opened_word, write_boxes};
 use tasks::Pair;
 use words::behind_head;
 
-// So many bytes from a place on, or those that are there.
+// So many bytes from a place on, or those that are there: what was said is compared also where it is cut short, which `part_of` of `round` doesn't give.
 fn part(bytes: &[u8], at: usize, size: usize) -> &[u8]
     ensures { result.now ≡ take size (drop at bytes.now) }
 {
@@ -45,7 +45,7 @@ fn first_other(trains: u16, digests: &[u8], given: &[u8]) -> Option<u16>
     (0..trains).find(|train| other_box(digests, given, *train))
 }
 
-// By place, and part by part, since the word that is compared may be any bytes.
+// By place, since the definition compares the bytes of each opening: whether the word is a good Opened is no matter here.
 #[tactic(auto, using(paths::proofs::Same::pointwise_same))]
 fn other_opening(pair: Pair, word: &[u8], given: &[u8]) -> Option<u16>
     ensures { result ≡ other_opening pair.first pair.second word.now given.now }
@@ -87,7 +87,8 @@ impl Given<'_> {
         write_boxes(self.plan, self.closed.number, &self.lot, memory);
     }
 
-    // The first train with another box, or else another opening.
+    // The first train with another box, or else another opening. By `or`, though both are worked out then: what a closure gives that holds `self` isn't known
+    // behind `or_else`.
     fn other_train(&self, memory: &mut [u8]) -> Option<u16>
         requires { length memory.old ≡ 7 + 32 * self.now.closed.task.now.trains }
         ensures { result ≡ other_train sha256 (task_of self.now.closed.task.now) self.now.closed.number (plan_of self.now.plan.now) (lot_of self.now.lot) (round_of self.now.closed.round.now) }

@@ -19,7 +19,6 @@ ghost use Rattle.judging.specs.Binding.{WordsBind, NoOtherWords};
 use super::judge::Judge;
 use super::looking::{Closed, opened_in};
 use super::verdict::{Content, Redrawn, Verdict};
-use book;
 use cutting::{Awaits, Heard, Round, hear};
 use fitting::test_plan;
 use std::alloc::{AllocError, Global};
@@ -153,13 +152,13 @@ impl Judge {
     fn tell(&self, digest: [u8; 32]) -> Verdict
         ensures { verdict_of result ≡ finish (judge_of self.now) digest }
     {
-        match self.awaits {
-            Awaits::Boxes | Awaits::Nothing if self.digest != digest => Verdict::OtherWords,
-            Awaits::Boxes | Awaits::Nothing => {
-                Verdict::Judged(self.round, self.content, self.redrawn)
-            }
-            _ => Verdict::BadWords(Fault::Shape, self.round),
+        if !self.awaits.is_between() {
+            return Verdict::BadWords(Fault::Shape, self.round);
         }
+        if self.digest != digest {
+            return Verdict::OtherWords;
+        }
+        Verdict::Judged(self.round, self.content, self.redrawn)
     }
 
     // The verdict after the last word, by the digest that was signed. In one pass the words are told what is to be told of them, and nothing where they don't fit

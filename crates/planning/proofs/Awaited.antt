@@ -5,8 +5,9 @@ use Rattle.paths.specs.Plan.{Task, all_below}
 use Rattle.tasks.specs.Reading.{Got, got, refused, and_then}
 use Rattle.words.specs.Said.{Said, task, plan, boxes, ask, opened, end}
 use Rattle.words.specs.Reading.{read_word}
+use Rattle.words.specs.Awaited.{on_end}
 use Rattle.words.specs.Writing.{said_bytes, WordLaw}
-use Rattle.planning.specs.Planning.{on_ask, ask_in, on_end, end_in}
+use Rattle.planning.specs.Planning.{on_ask, ask_in, end_in}
 use Rattle.planning.specs.Conduct.{AnAsk, AnEnd, Refused, no_word, not_awaited}
 
 module _ (t : Task) (n : ℕ) (w : List ℕ) where

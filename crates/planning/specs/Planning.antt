@@ -1,14 +1,16 @@
 -- The planner's side, step by step, over the bytes that come. H is any function in the place of SHA-256. Assumes nothing.
-use Rattle.std.specs.Prelude.{ℕ, ◌+◌, Bool, cond, List, [], length, ◌==◌, nat_lt}
+use Rattle.std.specs.Prelude.{ℕ, ◌+◌, Bool, cond, List, [], nat_lt}
 use Rattle.paths.specs.Plan.{Task, Plan}
 use Rattle.tasks.specs.Reading.{Got, got, refused, and_then}
 use Rattle.tasks.specs.Writing.{task_bytes}
+use Rattle.fitting.specs.Pairs.{asked_pair}
 use Rattle.fitting.specs.Testing.{tested}
 use Rattle.book.specs.Lengths.{round_text}
 use Rattle.book.specs.Chain.{next_digest, after}
 use Rattle.lots.specs.Lots.{Had, Lot, lot_in}
-use Rattle.words.specs.Said.{Said, task, plan, boxes, ask, opened, end}
+use Rattle.words.specs.Said.{Said}
 use Rattle.words.specs.Reading.{read_word}
+use Rattle.words.specs.Awaited.{on_ask as on_this_ask, on_end}
 use Rattle.words.specs.Writing.{said_bytes}
 use Rattle.round.specs.Over.{Over, content, not_content, fault, Leads, on, out}
 use Rattle.round.specs.Round.{boxes_for, opened_for}
@@ -76,14 +78,9 @@ abbrev pub close : (List ℕ → List ℕ) → Ready → List ℕ → Leads Clos
 close H s drawn =
     led s (and_then (lot_in s.task drawn) (λ h. got record { ready = s; lot = h.what; boxes = said_bytes (boxes_for H s.round s.plan h.what) }))
 
--- the pair that the word asks for: another word, or one of another round, is fault 6, and a pair that isn't there 7
+-- the pair that an Ask of this round names: fault 7 where it isn't there
 abbrev pub on_ask : Task → ℕ → Said → Got ℕ
-on_ask t n (ask r i) = cond (r == n) (cond (nat_lt i (length t.pairs)) (got i) (refused 7)) (refused 6)
-on_ask t n (task bs) = refused 6
-on_ask t n (plan p) = refused 6
-on_ask t n (boxes r ds) = refused 6
-on_ask t n (opened r x y) = refused 6
-on_ask t n (end r c) = refused 6
+on_ask t n x = and_then (on_this_ask n x) (λ i. and_then (asked_pair t i) (λ _. got i))
 
 abbrev pub ask_in : Task → ℕ → List ℕ → Got ℕ
 ask_in t n bs = and_then (read_word t bs) (on_ask t n)
@@ -94,14 +91,6 @@ answer s bs =
     led r (and_then (ask_in r.task r.round bs) (λ i. got record { closed = s; ask = bs; opened = said_bytes (opened_for r.task r.round r.plan s.lot i) }))
 
 -- what an End of this round says
-abbrev pub on_end : ℕ → Said → Got Bool
-on_end n (end r c) = cond (r == n) (got c) (refused 6)
-on_end n (task bs) = refused 6
-on_end n (plan p) = refused 6
-on_end n (boxes r ds) = refused 6
-on_end n (ask r i) = refused 6
-on_end n (opened r x y) = refused 6
-
 abbrev pub end_in : Task → ℕ → List ℕ → Got Bool
 end_in t n bs = and_then (read_word t bs) (on_end n)
 

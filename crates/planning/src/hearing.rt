@@ -4,35 +4,27 @@ ghost use Rattle.tasks.specs.Model.{task_of};
 ghost use Rattle.tasks.specs.Reading.{gives};
 ghost use Rattle.planning.specs.Planning.{ask_in, end_in};
 
+use super::ready::Ready;
 use fitting::pair_at;
-use tasks::{Fault, Task};
-use words::{Word, read_word};
+use tasks::Fault;
+use words::read_word;
 
-// The pair that the bytes ask for.
-pub(super) fn read_ask(task: &Task, round: u32, bytes: &[u8]) -> Result<u16, Fault>
-    ensures answer { gives (λ i. i) result ≡ ask_in (task_of task.now) round bytes.now }
-    ensures whole { IfOk result (λ i. (length bytes.now ≡ 7) × (i < length (task_of task.now).pairs)) }
-{
-    let Word::Ask(said, pair) = read_word(task, bytes)? else {
-        return Err(Fault::NotAwaited);
-    };
-    if said != round {
-        return Err(Fault::NotAwaited);
+impl Ready {
+    // The pair that the word asks for.
+    pub(super) fn read_ask(&self, word: &[u8]) -> Result<u16, Fault>
+        ensures answer { gives (λ i. i) result ≡ ask_in (task_of self.now.task) self.now.round word.now }
+        ensures whole { IfOk result (λ i. (length word.now ≡ 7) × (i < length (task_of self.now.task).pairs)) }
+    {
+        let pair = read_word(&self.task, word)?.ask_of(self.round)?;
+        pair_at(&self.task, pair)?;
+        Ok(pair)
     }
-    pair_at(task, pair)?;
-    Ok(pair)
-}
 
-// What the bytes say of the round, as its End.
-pub(super) fn read_end(task: &Task, round: u32, bytes: &[u8]) -> Result<bool, Fault>
-    ensures answer { gives (λ c. c) result ≡ end_in (task_of task.now) round bytes.now }
-    ensures whole { OnOk result (length bytes.now ≡ 6) }
-{
-    let Word::End(said, content) = read_word(task, bytes)? else {
-        return Err(Fault::NotAwaited);
-    };
-    if round != said {
-        return Err(Fault::NotAwaited);
+    // What the word says of the round, as its End.
+    pub(super) fn read_end(&self, word: &[u8]) -> Result<bool, Fault>
+        ensures answer { gives (λ c. c) result ≡ end_in (task_of self.now.task) self.now.round word.now }
+        ensures whole { OnOk result (length word.now ≡ 6) }
+    {
+        read_word(&self.task, word)?.end_of(self.round)
     }
-    Ok(content)
 }

@@ -9,7 +9,6 @@ ghost use Rattle.planning.specs.Planning.{begin, start};
 ghost use Rattle.planning.specs.Conduct.{Conduct};
 
 use super::ready::Ready;
-use book;
 use fitting::test_plan;
 use round::{Over, go_on};
 use std::alloc::{AllocError, Global};

@@ -14,7 +14,6 @@ ghost use Rattle.planning.specs.Planning.{stops, turn, left_over, close, answer,
 
 use super::closed::Closed;
 use super::heard::Heard;
-use super::hearing::{read_ask, read_end};
 use super::opened::Opened;
 use super::ready::Ready;
 use book::next;
@@ -77,7 +76,7 @@ impl Closed {
         ensures { leads opened_of result ≡ answer (closed_of self) word.now }
     {
         let ready = &self.ready;
-        let pair = read_ask(&ready.task, ready.round, word).map_err(|fault| ready.stops(fault))?;
+        let pair = ready.read_ask(word).map_err(|fault| ready.stops(fault))?;
         let opened = open(&self, pair);
         Ok(Opened {
             closed: self,
@@ -93,7 +92,7 @@ impl Opened {
         ensures { leads heard_of result ≡ hear (opened_of self) word.now }
     {
         let ready = &self.closed.ready;
-        let content = read_end(&ready.task, ready.round, word).map_err(|fault| ready.stops(fault))?;
+        let content = ready.read_end(word).map_err(|fault| ready.stops(fault))?;
         Ok(Heard {
             opened: self,
             end: word.try_into().unwrap(),

@@ -1,15 +1,14 @@
 -- What the words of a round are to be: those that a plan and a lot give, and the test of an Opened. H is any function in the place of SHA-256. Assumes nothing.
-use Rattle.std.specs.Prelude.{◌≡◌, ℕ, ◌*◌, ◌<◌, Bool, true, cond, not, ◌&&◌, List, ◌∷◌, ◌++◌, map, length, take, drop, Option, ◌==◌, nat_le, nat_lt}
+use Rattle.std.specs.Prelude.{◌≡◌, ℕ, ◌*◌, ◌<◌, Bool, true, cond, not, ◌&&◌, List, map, length, take, drop, Option, ◌==◌, nat_le, nat_lt}
 use Rattle.std.specs.Bool.{then_some}
 use Rattle.paths.specs.Plan.{Task, Plan, Good, at, fits}
 use Rattle.paths.specs.Show.{pair_at}
 use Rattle.drawing.specs.Uniform.{IsOrder}
 use Rattle.tasks.specs.Reading.{Got, Looked, got, refused}
-use Rattle.tasks.specs.Writing.{word_bytes}
 use Rattle.boxes.specs.Box.{Opening, boxes_of, opens_box}
 use Rattle.lots.specs.Lots.{Lot}
 use Rattle.words.specs.Said.{Said, task, plan, boxes, ask, opened, end}
-use Rattle.words.specs.Writing.{long_bytes, said_bytes, Wrote, no_room, write}
+use Rattle.words.specs.Writing.{said_bytes, Wrote, no_room, write}
 
 -- the numbers in the boxes: for each train, what the order gives its path
 abbrev pub held : Plan → List ℕ → List ℕ
@@ -18,10 +17,6 @@ held p order = map (at order) p
 -- the Boxes of round n
 abbrev pub boxes_for : (List ℕ → List ℕ) → ℕ → Plan → Lot → Said
 boxes_for H n p l = boxes n (boxes_of H n 0 (held p l.order) l.chances)
-
--- what stands before the digests, of n trains
-abbrev pub boxes_head : ℕ → ℕ → List ℕ
-boxes_head r n = (3 ∷ long_bytes r) ++ word_bytes n
 
 -- the chance, or the digest, of train i among those of all trains, 32 bytes each
 abbrev pub part_of : List ℕ → ℕ → List ℕ

@@ -7,12 +7,13 @@ ghost use Rattle.tasks.specs.Model.{plan_of};
 ghost use Rattle.lots.specs.Views.{lot_of};
 ghost use Rattle.words.specs.Model.{wrote_to};
 ghost use Rattle.words.specs.Writing.{said_bytes};
-ghost use Rattle.round.specs.Round.{held, boxes_for, boxes_head, write_boxes};
+ghost use Rattle.round.specs.Round.{held, boxes_for, write_boxes};
 
 use boxes::close_all;
 use lots::Lot;
 use paths::Order;
-use tasks::{Kind, Plan};
+use tasks::Plan;
+use words::boxes_head;
 
 // The number that the order gives a path, and 0 where the path isn't there.
 pub(super) fn number_of(order: &Order, path: u8) -> u8
@@ -31,16 +32,6 @@ fn numbers(plan: &Plan, order: &Order) -> [u8; 1024]
         numbers[train] = number_of(order, *path);
     }
     numbers
-}
-
-// Kind, round and the number of trains.
-// `words` writes the same before digests that are there already.
-fn boxes_head(round: u32, trains: u16) -> [u8; 7]
-    ensures { result ≡ boxes_head round trains }
-{
-    let [a, b, c, d] = round.to_be_bytes();
-    let [high, low] = trains.to_be_bytes();
-    [Kind::Boxes.byte(), a, b, c, d, high, low]
 }
 
 // Writes the Boxes of the round to the front of `out`: a box for each train, with the number that the order gives its path. Where the chances are not 32 bytes

@@ -11,13 +11,15 @@ use Rattle.tasks.specs.Reading.{Got, got, refused, and_then}
 use Rattle.sha256.specs.Sha256.{bytes}
 use Rattle.sha256.proofs.Bytes.{length-bytes}
 use Rattle.boxes.specs.Box.{box_text, boxes_of}
+use Rattle.tasks.proofs.Units.{then_got, cond-got}
+use Rattle.fitting.specs.Pairs.{asked_pair}
 use Rattle.boxes.proofs.Boxes.{length-boxes, laid}
 use Rattle.lots.specs.Lots.{Lot, coin_of_lot}
-use Rattle.words.specs.Said.{Said, task, plan, boxes, ask, end}
-use Rattle.words.specs.Said as said
+use Rattle.words.specs.Said.{Said}
 use Rattle.words.specs.Reading.{read_word}
-use Rattle.words.specs.Writing.{said_bytes}
-use Rattle.round.specs.Round.{held, part_of, boxes_for, boxes_head, opened_for}
+use Rattle.words.specs.Awaited.{on_ask as on_this_ask}
+use Rattle.words.specs.Writing.{boxes_head, said_bytes}
+use Rattle.round.specs.Round.{held, part_of, boxes_for, opened_for}
 use Rattle.round.specs.Line.{Event, sent, heard, Other, Ran}
 use Rattle.round.specs.Over.{Over, Leads, on, out}
 use Rattle.planning.specs.Planning.{Ready, Closed, stops, turn, on_ask, ask_in, end_in, hear, settle}
@@ -29,17 +31,11 @@ use Rattle.secrecy.proofs.ByLots.{lots-out, opened_by}
 
 -- a question that was taken is for a pair that is there
 on-asked : (t : Task) (n i : ℕ) (x : Said) → on_ask t n x ≡ got i → i < length t.pairs
-on-asked t n i (ask r j) e = go (eqb r n) (ltb j (length t.pairs)) refl e
-  where
-    go : (a b : Bool) → ltb j (length t.pairs) ≡ b → cond a (cond b (got j) (refused 7)) (refused 6) ≡ got i → i < length t.pairs
-    go true true h q = let s : j ≡ i = cc in omega (arith, ltb-true j (length t.pairs) h)
-    go true false h q = cc
-    go false b h q = cc
-on-asked t n i (task bs) e = cc
-on-asked t n i (plan p) e = cc
-on-asked t n i (boxes r ds) e = cc
-on-asked t n i (said.opened r x y) e = cc
-on-asked t n i (end r c) e = cc
+on-asked t n i x e =
+    let p = then_got (on_this_ask n x) (λ j. and_then (asked_pair t j) (λ _. got j)) i e in
+    let q = then_got (asked_pair t p.0) (λ _. got p.0) i p.2 in
+    let same : p.0 ≡ i = cc q.2 in
+    omega (arith, ltb-true _ _ (cond-got (ltb p.0 (length t.pairs)) 7 _ q.0 q.1).0)
 
 asked-there : (t : Task) (n i : ℕ) (w : List ℕ) → ask_in t n w ≡ got i → i < length t.pairs
 asked-there t n i w e = go (read_word t w) e

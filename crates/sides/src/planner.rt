@@ -14,7 +14,6 @@ ghost use Rattle.joined.specs.Sides.{NothingAfter};
 ghost use Rattle.blameless.specs.Blameless.{Blameless};
 
 use planning::Begun;
-use secrecy;
 use std::alloc::Global;
 use tasks::{Fault, Plan, Rounds, Task};
 

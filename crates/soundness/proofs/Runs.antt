@@ -10,11 +10,12 @@ use Rattle.book.specs.Lengths.{round_text}
 use Rattle.lots.specs.Lots.{Had, question_in, in_turn, each_as}
 use Rattle.words.specs.Said.{ask, end}
 use Rattle.words.specs.Reading.{read_word}
+use Rattle.words.specs.Awaited.{on_boxes}
 use Rattle.words.specs.Writing.{said_bytes, is_got}
 use Rattle.round.specs.Line.{Event, sent, heard, Other}
 use Rattle.round.specs.Over.{Over, fault, Leads, on, out}
 use Rattle.round.specs.Round.{test_opened}
-use Rattle.asking.specs.Asking.{Ready, led, turn, begun, meet, on_task, on_boxes, is_opened_of, settled}
+use Rattle.asking.specs.Asking.{Ready, led, turn, begun, meet, on_task, is_opened_of, settled}
 use Rattle.asking.specs.Run.{Gone, going_on, asked, boxed, left_in, run, asking}
 use Rattle.asking.proofs.Refusals.{too_few}
 use Rattle.soundness.specs.Questioned.{run_on, asking_on, then_more, questions_in, RunsOn}

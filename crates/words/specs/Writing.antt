@@ -11,6 +11,10 @@ use Rattle.words.specs.Reading.{read_word}
 abbrev pub long_bytes : ℕ → List ℕ
 long_bytes x = word_bytes (x / 65536) ++ word_bytes x
 
+-- what stands before the digests of n trains in the Boxes of a round
+abbrev pub boxes_head : ℕ → ℕ → List ℕ
+boxes_head r n = (3 ∷ long_bytes r) ++ word_bytes n
+
 abbrev pub opening_bytes : Opening → List ℕ
 opening_bytes o = word_bytes o.train ++ (o.number ∷ o.chance)
 

@@ -11,7 +11,7 @@ use super::word::Word;
 use boxes::Opening;
 use tasks::{Fault, Kind, Task, check_plan, check_task};
 
-fn read_task_word(bytes: &[u8]) -> Result<Word, Fault>
+fn read_task_word(bytes: &[u8]) -> Result<Word<'_>, Fault>
     ensures { gives said result ≡ read_task_word bytes.now }
 {
     check_task(bytes)?;
@@ -32,7 +32,7 @@ pub fn behind_head(boxes: &[u8]) -> &[u8]
     boxes.get(7..).unwrap_or(&[])
 }
 
-fn read_boxes(trains: u16, bytes: &[u8]) -> Result<Word, Fault>
+fn read_boxes(trains: u16, bytes: &[u8]) -> Result<Word<'_>, Fault>
     ensures { gives said result ≡ read_boxes trains bytes.now }
 {
     let [_, a, b, c, d, high, low, ..] = bytes else {
@@ -44,7 +44,7 @@ fn read_boxes(trains: u16, bytes: &[u8]) -> Result<Word, Fault>
     Ok(Word::Boxes(u32::from_be_bytes([*a, *b, *c, *d]), behind_head(bytes)))
 }
 
-fn read_ask(bytes: &[u8]) -> Result<Word, Fault>
+fn read_ask(bytes: &[u8]) -> Result<Word<'_>, Fault>
     ensures { gives said result ≡ read_ask bytes.now }
 {
     let [_, a, b, c, d, high, low] = bytes else {
@@ -70,7 +70,7 @@ fn opening_in(bytes: &[u8; 35]) -> Opening
     }
 }
 
-fn read_opened(bytes: &[u8]) -> Result<Word, Fault>
+fn read_opened(bytes: &[u8]) -> Result<Word<'_>, Fault>
     ensures { gives said result ≡ read_opened bytes.now }
 {
     let [_, a, b, c, d, openings @ ..] = bytes else {
@@ -86,7 +86,7 @@ fn read_opened(bytes: &[u8]) -> Result<Word, Fault>
     ))
 }
 
-fn read_end(bytes: &[u8]) -> Result<Word, Fault>
+fn read_end(bytes: &[u8]) -> Result<Word<'_>, Fault>
     ensures { gives said result ≡ read_end bytes.now }
 {
     let [_, a, b, c, d, content] = bytes else {

@@ -5,7 +5,7 @@ ghost use Rattle.tasks.specs.Kind.{kind_byte};
 ghost use Rattle.tasks.specs.Writing.{word_bytes};
 ghost use Rattle.words.specs.Model.{said, wrote_to};
 ghost use Rattle.words.specs.Said.{plan, boxes, ask, opened, end};
-ghost use Rattle.words.specs.Writing.{long_bytes, opening_bytes, said_bytes, write};
+ghost use Rattle.words.specs.Writing.{long_bytes, boxes_head, opening_bytes, said_bytes, write};
 
 use super::word::Word;
 use boxes::Opening;
@@ -39,26 +39,25 @@ fn write_both(head: &[u8], rest: &[u8], out: &mut [u8]) -> Option<usize>
     Some(head.len() + rest.len())
 }
 
-// A count in two bytes, high byte first; of a larger one what is above them is left out, as no task has so many trains.
-fn low_word(count: usize) -> [u8; 2]
-    ensures { result ≡ word_bytes count }
+// A count as one of two bytes; of a larger one what is above them is left out, as no task has so many trains.
+fn low_word(count: usize) -> u16
+    ensures { word_bytes result ≡ word_bytes count }
 {
-    ((count % 65536) as u16).to_be_bytes()
+    (count % 65536) as u16
 }
 
 fn write_plan(paths: &[u8], out: &mut [u8]) -> Option<usize>
     ensures { wrote_to result out.new ≡ write (said_bytes (plan paths.now)) out.old }
 {
-    let [high, low] = low_word(paths.len());
+    let [high, low] = low_word(paths.len()).to_be_bytes();
     write_both(&[Kind::Plan.byte(), high, low], paths, out)
 }
 
 fn write_boxes(round: u32, digests: &[u8], out: &mut [u8]) -> Option<usize>
     ensures { wrote_to result out.new ≡ write (said_bytes (boxes round digests.now)) out.old }
 {
-    let [kind, a, b, c, d] = front(Kind::Boxes, round);
-    let [high, low] = low_word(digests.len() / 32);
-    write_both(&[kind, a, b, c, d, high, low], digests, out)
+    let head = boxes_head(round, low_word(digests.len() / 32));
+    write_both(&head, digests, out)
 }
 
 // The kind of a word and the number of its round.
@@ -67,6 +66,15 @@ fn front(kind: Kind, round: u32) -> [u8; 5]
 {
     let [a, b, c, d] = round.to_be_bytes();
     [kind.byte(), a, b, c, d]
+}
+
+// What stands before the digests in the Boxes of a round: its number, and that of the trains.
+pub fn boxes_head(round: u32, trains: u16) -> [u8; 7]
+    ensures { result ≡ boxes_head round trains }
+{
+    let [kind, a, b, c, d] = front(Kind::Boxes, round);
+    let [high, low] = trains.to_be_bytes();
+    [kind, a, b, c, d, high, low]
 }
 
 // The Ask of a round for a pair.
