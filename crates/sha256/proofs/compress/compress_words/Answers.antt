@@ -8,16 +8,6 @@ pub loop-t-init : goal.loop-t-init
 loop-t-init g c =
     (λ j l. no_steps (state_at g.W.Words.lane c.args.s j) (column g.W.Words.lane c.put_all.new.w j), refl, omega arith)
 
-pub eight_steps-r-requires : goal.eight_steps-r-requires
-eight_steps-r-requires g c = let m = g.met.W.Words.is_small in (omega arith, omega arith)
-
-pub loop-t-preserved : goal.loop-t-preserved
-loop-t-preserved g c = (
-  λ j l. c.eight_steps-r.ensures j l (state_at g.W.Words.lane c.args.s j) (c.loop-t.invariant.0 j l),
-  omega arith,
-  omega arith,
-)
-
 pub returns : goal.returns
 returns g c = λ j l b h.
     let lane = g.W.Words.lane in

@@ -12,7 +12,3 @@ loop-i-preserved c =
       words_more c.loop-i.out words c.copy_from_slice.new.self _ i (omega arith) (omega arith) four c.loop-i.invariant.0,
       same_len_mid (4 * i) (4 * i + 4 - 4 * i) c.loop-i.out c.copy_from_slice.new.self c.copy_from_slice.ensures.len ∙ c.loop-i.invariant.1,
     )
-
-pub returns : goal.returns
-returns c =
-    words-all c.args.words c.loop-i.out c.loop-i.i (omega arith) (search rules) c.loop-i.invariant.1 c.loop-i.invariant.0
