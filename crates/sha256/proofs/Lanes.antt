@@ -20,10 +20,10 @@ pub same_states : (s r : State ℕ)
     → s.a ≡ r.a → s.b ≡ r.b → s.c ≡ r.c → s.d ≡ r.d → s.e ≡ r.e → s.f ≡ r.f → s.g ≡ r.g → s.h ≡ r.h → s ≡ r
 same_states s r a b c d e f g h = λ i. record { a = a i; b = b i; c = c i; d = d i; e = e i; f = f i; g = g i; h = h i }
 
-pub column-alone : (w : List ℕ) → column (λ x j. x) w 0 ≡ w
+pub column_alone : (w : List ℕ) → column (λ x j. x) w 0 ≡ w
 unfolding column
-column-alone [] = refl
-column-alone (x ∷ w) = ap (λ v. x ∷ v) (column-alone w)
+column_alone [] = refl
+column_alone (x ∷ w) = ap (λ v. x ∷ v) (column_alone w)
 
 module _ {W : Type 0} (lane : W → ℕ → ℕ) where
   pub length-column : (w : List W) (j : ℕ) → length (column lane w j) ≡ length w

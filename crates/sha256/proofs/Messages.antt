@@ -7,19 +7,19 @@ use Rattle.sha256.specs.declared.state.State.{State}
 use Rattle.sha256.specs.Sha256.{H0, bytes, zeros, padding, padded, block, compress, hashed, output, sha256}
 use Rattle.sha256.proofs.Bytes.{length-bytes, bits_mod, chunk_drop}
 
-pub hashed-none : (s : State ℕ) (p : List ℕ) → s ≡ hashed s p 0
+pub hashed_none : (s : State ℕ) (p : List ℕ) → s ≡ hashed s p 0
 unfolding hashed
-hashed-none s p = refl
+hashed_none s p = refl
 
-pub hashed-more : (s r : State ℕ) (p b : List ℕ) (n : ℕ)
+pub hashed_more : (s r : State ℕ) (p b : List ℕ) (n : ℕ)
     → s ≡ hashed r p n → b ≡ block p n → compress s b ≡ hashed r p (n + 1)
 unfolding hashed
-hashed-more s r p b n e f = rw add-one (cc)
+hashed_more s r p b n e f = rw add-one (cc)
 
 -- block i as the code cuts it
-pub chunk-block : (p d : List ℕ) (n i : ℕ) → i < n → get_or (first_chunks 64 n p) i d ≡ block p i
+pub chunk_block : (p d : List ℕ) (n i : ℕ) → i < n → get_or (first_chunks 64 n p) i d ≡ block p i
 unfolding block
-chunk-block p d n i h = chunk_drop 64 p d n i h
+chunk_block p d n i h = chunk_drop 64 p d n i h
 
 -- the blocks of a message are those of a part from its front that is long enough
 block-take : (p : List ℕ) (n m : ℕ) → 64 * n + 64 ≤ m → block (take m p) n ≡ block p n
@@ -56,14 +56,14 @@ pub hashed-after : (s : State ℕ) (p q : List ℕ) (k n : ℕ)
     → length p ≡ 64 * k → hashed s (p ++ q) (k + n) ≡ hashed (hashed s p k) q n
 hashed-after s p q k zero h =
     let f = hashed_front s p q k (omega arith) in
-    let z = hashed-none (hashed s p k) q in
+    let z = hashed_none (hashed s p k) q in
     let e = add-zero k in
     cc
 hashed-after s p q k (suc n) h =
     let e = hashed-after s p q k n h in
     let b = block-after p q k n h in
-    let l = hashed-more _ s (p ++ q) _ (k + n) refl refl in
-    let r = hashed-more _ (hashed s p k) q _ n refl refl in
+    let l = hashed_more _ s (p ++ q) _ (k + n) refl refl in
+    let r = hashed_more _ (hashed s p k) q _ n refl refl in
     let u : k + suc n ≡ k + n + 1 = omega arith in
     let v : suc n ≡ n + 1 = omega arith in
     cc
@@ -78,7 +78,7 @@ one_block s p h =
     let b = block-whole p [] h in
     let a = append-nil p in
     let e : length p / 64 ≡ 0 + 1 = omega arith in
-    let m = hashed-more s s p p 0 (hashed-none s p) (cc) in
+    let m = hashed_more s s p p 0 (hashed_none s p) (cc) in
     cc
 
 pub two_blocks : (s : State ℕ) (p q : List ℕ)

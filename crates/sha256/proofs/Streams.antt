@@ -5,7 +5,7 @@ use lib.Seq.{drop-append-add}
 use Rattle.std.proofs.lemmas.List.{append_assoc, drop-append-le, length-append, length-drop, length-take-le, take_all, take-append-drop}
 use Rattle.sha256.specs.declared.state.State.{State}
 use Rattle.sha256.specs.Sha256.{H0, block, compress, hashed}
-use Rattle.sha256.proofs.Messages.{hashed_front, hashed-after, hashed-more}
+use Rattle.sha256.proofs.Messages.{hashed_front, hashed-after, hashed_more}
 
 pub total-more : (m part : List ℕ) (t : ℕ)
     → t ≡ length m % 2 ^ 64 → (t + length part) % 2 ^ 64 ≡ length (m ++ part) % 2 ^ 64
@@ -74,7 +74,7 @@ module _ (m part front rest tail : List ℕ) (held : ℕ) (eh : held ≡ length 
       let u : full ≡ drop (64 * q) (m ++ front) = sym (take_all (held + length front) full (omega arith)) ∙ (e ∙ (ap (λ (x : List ℕ). x ++ front) eb ∙ sym d)) in
       let t = take_all 64 full (omega arith) in
       let h = hashed_front H0 m front q (omega arith) in
-      hashed-more s H0 (m ++ front) full q (cc) (cc)
+      hashed_more s H0 (m ++ front) full q (cc) (cc)
 
   pub long-state : (s s1 s2 : State ℕ) (b full : List ℕ)
       → s ≡ hashed H0 m (length m / 64) → take held b ≡ drop (64 * (length m / 64)) m

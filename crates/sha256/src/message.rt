@@ -9,6 +9,7 @@ use crate::compress::initial;
 use crate::state::State;
 
 // The hash value after the whole blocks of `part`, and what comes after them.
+#[tactic(auto, using(crate::proofs::Messages::hashed_none, crate::proofs::Messages::hashed_more, crate::proofs::Messages::chunk_block))]
 pub(crate) fn blocks(start: State<u32>, part: &[u8]) -> (State<u32>, &[u8])
     ensures state { result.0 ≡ hashed start part.now (length part.now / 64) }
     ensures rest { result.1.now ≡ drop (64 * (length part.now / 64)) part.now }
@@ -70,6 +71,7 @@ pub(crate) fn finished(s: State<u32>, rest: &[u8], total: u64) -> [u8; 32]
 }
 
 // The digest of the message.
+#[tactic(auto, unfolding(crate::specs::Lane::state_at))]
 pub fn digest(message: &[u8]) -> [u8; 32]
     ensures { result ≡ sha256 message.now }
 {
