@@ -1,20 +1,19 @@
 -- Messages side by side: a vector's shift, and what a column of values and a state have in each lane.
-use Rattle.std.proofs.Common.{◌≡◌, ℕ, ◌+◌, ◌<◌, List, [], ◌∷◌, map, length, get_or, set, take, replicate, refl, ap, arith}
+use Rattle.std.proofs.Common.{◌≡◌, ℕ, ◌+◌, ◌<◌, List, [], ◌∷◌, map, length, get_or, set, take, refl, ap, arith}
 use lib.Lanes.{zip2}
 use Rattle.std.specs.List.{range_with_len}
 use Rattle.std.proofs.lemmas.List.{get_or-map, length-map, map-set}
-use Rattle.std.proofs.lemmas.Simd.{get_or-zip2, get_or-replicate}
+use Rattle.std.proofs.lemmas.Simd.{get_or-zip2, length-zip2}
 use Rattle.sha256.specs.declared.state.State.{State}
 use Rattle.sha256.specs.Sha256.{K, word, next, schedule, step, steps}
 use Rattle.sha256.specs.Lane.{column, state_at}
 use Rattle.sha256.proofs.Rounds.{one_more, more-first, more-words}
 
--- every lane of a vector with the same number, as in a shift
-pub by_splat : (g : ℕ → ℕ → ℕ) (x : List ℕ) (n j : ℕ) → length x ≡ 8 → j < 8 → get_or (zip2 g x (replicate 8 n)) j 0 ≡ g (get_or x j 0) n
-by_splat g x n j e h =
-    let z = get_or-zip2 g x (replicate 8 n) j 0 0 0 (omega arith) (omega arith) in
-    let r = get_or-replicate 8 j n 0 h in
-    cc
+-- a lane of what a vector instruction makes of two vectors
+pub by_lane : (g : ℕ → ℕ → ℕ) (x y : List ℕ) (j : ℕ) → length x ≡ 8 → length y ≡ 8 → j < 8 → get_or (zip2 g x y) j 0 ≡ g (get_or x j 0) (get_or y j 0)
+by_lane g x y j e f h = get_or-zip2 g x y j 0 0 0 (omega arith) (omega arith)
+
+pub ruleset lane_laws = (by_lane, length-zip2)
 
 pub same_states : (s r : State ℕ)
     → s.a ≡ r.a → s.b ≡ r.b → s.c ≡ r.c → s.d ≡ r.d → s.e ≡ r.e → s.f ≡ r.f → s.g ≡ r.g → s.h ≡ r.h → s ≡ r
