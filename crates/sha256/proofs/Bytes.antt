@@ -52,11 +52,13 @@ chunk_drop k p d (suc n) (suc i) h =
     let m : k + k * i ≡ k * suc i = omega arith in
     e ∙ ap (take k) (drop-drop (k * i) k p ∙ ap (λ (m : ℕ). drop m p) m)
 
--- the word of the four bytes q
-pub word_at : (b q : List ℕ) (t : ℕ)
-    → q ≡ take 4 (drop (4 * t) b) → get_or q 0 0 * 16777216 + get_or q 1 0 * 65536 + get_or q 2 0 * 256 + get_or q 3 0 ≡ word b t
+-- word t, of the list as the code cuts it
+pub word_at : (b : List ℕ) (t : ℕ) → t < length b / 4
+    → let q = get_or (first_chunks 4 (length b / 4) b) t [] in
+    word b t ≡ get_or q 0 0 * 16777216 + get_or q 1 0 * 65536 + get_or q 2 0 * 256 + get_or q 3 0
 unfolding word
-word_at b q t e =
+word_at b t h =
+    let e = chunk_drop 4 b [] (length b / 4) t h in
     let r = get_or-chunk (4 * t) 4 b 0 0 (omega arith) in
     let s = get_or-chunk (4 * t) 4 b 1 0 (omega arith) in
     let u = get_or-chunk (4 * t) 4 b 2 0 (omega arith) in

@@ -7,7 +7,7 @@ use Rattle.std.proofs.lemmas.Simd.{get_or-zip2, length-zip2}
 use Rattle.sha256.specs.declared.state.State.{State}
 use Rattle.sha256.specs.Sha256.{K, word, next, schedule, step, steps}
 use Rattle.sha256.specs.Lane.{column, state_at}
-use Rattle.sha256.proofs.Rounds.{one_more, more-first, more-words}
+use Rattle.sha256.proofs.Rounds.{one_more, more_first, more-words}
 
 -- a lane of what a vector instruction makes of two vectors
 pub by_lane : (g : ℕ → ℕ → ℕ) (x y : List ℕ) (j : ℕ) → length x ≡ 8 → length y ≡ 8 → j < 8 → get_or (zip2 g x y) j 0 ≡ g (get_or x j 0) (get_or y j 0)
@@ -18,11 +18,6 @@ pub ruleset lane_laws = (by_lane, length-zip2)
 pub same_states : (s r : State ℕ)
     → s.a ≡ r.a → s.b ≡ r.b → s.c ≡ r.c → s.d ≡ r.d → s.e ≡ r.e → s.f ≡ r.f → s.g ≡ r.g → s.h ≡ r.h → s ≡ r
 same_states s r a b c d e f g h = λ i. record { a = a i; b = b i; c = c i; d = d i; e = e i; f = f i; g = g i; h = h i }
-
-pub column_alone : (w : List ℕ) → column (λ x j. x) w 0 ≡ w
-unfolding column
-column_alone [] = refl
-column_alone (x ∷ w) = ap (λ v. x ∷ v) (column_alone w)
 
 module _ {W : Type 0} (lane : W → ℕ → ℕ) where
   pub length-column : (w : List W) (j : ℕ) → length (column lane w j) ≡ length w
@@ -45,7 +40,7 @@ module _ {W : Type 0} (lane : W → ℕ → ℕ) where
       → take (t + 1) (column lane (set w t x) j) ≡ map (word b) (range_with_len 0 (t + 1))
   column-first b w x t j h ex e =
       let l = length-column w j in
-      rw (column-set w x t j) (more-first b (column lane w j) t (lane x j) (omega arith) ex e)
+      rw (column-set w x t j) (more_first b (column lane w j) t (lane x j) (omega arith) ex e)
 
   -- a lane after t rounds, and after one more
   pub lane_more : (start : State ℕ) (s r : State W) (w : List W) (x : W) (j t k u : ℕ)

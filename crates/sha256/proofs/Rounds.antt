@@ -2,22 +2,25 @@
 use Rattle.std.proofs.Common.{◌≡◌, ℕ, zero, suc, ◌+◌, ◌<◌, ◌≤◌, List, [], ◌∷◌, ◌++◌, map, length, get_or, take, drop, set, refl, subst, add-one, arith}
 use Rattle.std.specs.List.{range_with_len}
 use Rattle.std.proofs.lemmas.List.FromFn.{map-range_with_len_more}
-use Rattle.std.proofs.lemmas.List.{get_or_append_left, get_or-take, length_push, take-append-drop, take_more_set}
+use Rattle.std.proofs.lemmas.List.{get_or_append_left, get_or-take, length-set, length_push, take-append-drop, take_more_set}
+use Rattle.sha256.proofs.Bytes.{word_at}
 use Rattle.sha256.specs.declared.state.State.{State}
 use Rattle.sha256.specs.Sha256.{K, word, step, steps, next, schedule, sum, compress}
 
 -- one more word of a block, and all sixteen, with which the schedule begins
-pub more-first : (b w : List ℕ) (t x : ℕ)
+pub more_first : (b w : List ℕ) (t x : ℕ)
     → t < length w → x ≡ word b t → take t w ≡ map (word b) (range_with_len 0 t)
     → take (t + 1) (set w t x) ≡ map (word b) (range_with_len 0 (t + 1))
-more-first b w t x h ex e =
+more_first b w t x h ex e =
     let p = take_more_set w t x h in
     let f = map-range_with_len_more (word b) 0 t t (omega arith) in
     cc
 
-pub first-words : (b w : List ℕ) (t : ℕ) → t ≡ 16 → take t w ≡ map (word b) (range_with_len 0 t) → take 16 w ≡ schedule b 0
+pub first_words : (b w : List ℕ) (t : ℕ) → t ≡ 16 → take t w ≡ map (word b) (range_with_len 0 t) → take 16 w ≡ schedule b 0
 unfolding schedule
-first-words b w t e h = subst (λ (n : ℕ). take n w ≡ map (word b) (range_with_len 0 n)) e h
+first_words b w t e h = subst (λ (n : ℕ). take n w ≡ map (word b) (range_with_len 0 n)) e h
+
+pub ruleset block_laws = (more_first, first_words, word_at, length-set)
 
 -- a next word reads only the words before it
 pub next-take : (w : List ℕ) (n : ℕ) → next (take (n + 16) w) n ≡ next w n

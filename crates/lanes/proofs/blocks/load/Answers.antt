@@ -3,7 +3,7 @@ use Rattle.std.proofs.Common.{[], get_or, ◌∙◌, arith}
 use Rattle.std.proofs.lemmas.List.{length-set}
 use Rattle.sha256.specs.Sha256.{padded}
 use Rattle.sha256.proofs.Lanes.{column-first}
-use Rattle.sha256.proofs.Rounds.{first-words}
+use Rattle.sha256.proofs.Rounds.{first_words}
 use Rattle.lanes.specs.Lane.{lane}
 use Rattle.lanes.proofs.States.{column-front}
 use Rattle.lanes.proofs.blocks.load.Goals as goal
@@ -23,4 +23,4 @@ loop-t-preserved c =
 pub returns-clause-words : goal.returns-clause-words
 returns-clause-words c = λ j l.
     let front = column-front c.loop-t.x-items _ c.loop-t.t j (omega arith) in
-    first-words (padded (get_or c.args.texts.now j [])) _ c.loop-t.t (omega arith) (front ∙ c.loop-t.invariant.0 j l)
+    first_words (padded (get_or c.args.texts.now j [])) _ c.loop-t.t (omega arith) (front ∙ c.loop-t.invariant.0 j l)
