@@ -51,9 +51,9 @@ module _ {W : Type 0} (lane : W → ℕ → ℕ) where
       one_more start (state_at lane s j) (state_at lane r j) (column lane w j) t k (lane (get_or w t x) j) u es er ek (cc) eu
 
   -- one more word of the schedule
-  pub column-words : (b : List ℕ) (w : List W) (x : W) (n m j : ℕ)
-      → m ≡ n + 16 + 1 → n + 16 < length w → take (n + 16) (column lane w j) ≡ schedule b n → lane x j ≡ next (column lane w j) n
-      → take m (column lane (set w (n + 16) x) j) ≡ schedule b (n + 1)
-  column-words b w x n m j em h e ex =
+  pub column_words : (b : List ℕ) (w : List W) (x : W) (n j : ℕ)
+      → n + 16 < length w → take (n + 16) (column lane w j) ≡ schedule b n → lane x j ≡ next (column lane w j) n
+      → take (n + 1 + 16) (column lane (set w (n + 16) x) j) ≡ schedule b (n + 1)
+  column_words b w x n j h e ex =
       let l = length-column w j in
-      rw (column-set w x (n + 16) j) (more-words b (column lane w j) n m (lane x j) em (omega arith) e ex)
+      rw (column-set w x (n + 16) j) (more-words b (column lane w j) n (n + 1 + 16) (lane x j) (omega arith) (omega arith) e ex)

@@ -36,6 +36,7 @@ fn next<W: Words>(w: &[W; 64], n: usize) -> W
 }
 
 // The next word of the schedule, at its place.
+#[tactic(auto, using(crate::proofs::Lanes::column_words))]
 fn put_next<W: Words>(w: &mut [W; 64], n: usize)
     requires { n < 48 }
     ensures { (j : ℕ) (b : List ℕ) → j < W.lanes → take (n + 16) (column W.lane w.old j) ≡ scheduled b n → take (n + 1 + 16) (column W.lane w.new j) ≡ scheduled b (n + 1) }
