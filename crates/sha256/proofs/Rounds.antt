@@ -80,10 +80,9 @@ length-schedule b (suc n) =
     omega (arith, a, e)
 
 -- all rounds, on all words
-pub all_steps : (s r : State ℕ) (b w : List ℕ) (t : ℕ)
-    → t ≡ 64 → take 64 w ≡ schedule b 48 → r ≡ steps s w t → sum s r ≡ compress s b
+pub all_steps : (s : State ℕ) (b w : List ℕ) (t : ℕ) → t ≡ 64 → take 64 w ≡ schedule b 48 → sum s (steps s w t) ≡ compress s b
 unfolding compress
-all_steps s r b w t e h er =
+all_steps s b w t e h =
     let a = take-append-drop 64 w in
     let l = length-schedule b 48 in
     let f = steps_front s (schedule b 48) (drop 64 w) 64 (omega arith) in

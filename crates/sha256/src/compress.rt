@@ -120,6 +120,7 @@ fn sum<W: Words>(s: State<W>, r: State<W>) -> State<W>
 }
 
 // The hash values after a block of each message, whose sixteen words are the first of w. The others are filled.
+#[tactic(auto, using(crate::proofs::Rounds::no_steps, crate::proofs::Rounds::all_steps))]
 pub fn compress_words<W: Words>(s: State<W>, w: &mut [W; 64]) -> State<W>
     ensures { (j : ℕ) → j < W.lanes → (b : List ℕ) → take 16 (column W.lane w.old j) ≡ scheduled b 0 → state_at W.lane result j ≡ compressed (state_at W.lane s j) b }
 {
