@@ -7,7 +7,7 @@ use Rattle.std.proofs.lemmas.Simd.{get_or-zip2, length-zip2}
 use Rattle.sha256.specs.declared.state.State.{State}
 use Rattle.sha256.specs.Sha256.{K, word, next, schedule, step, steps}
 use Rattle.sha256.specs.Lane.{column, state_at}
-use Rattle.sha256.proofs.Rounds.{one_more, more_first, more-words}
+use Rattle.sha256.proofs.Rounds.{steps-more, more_first, more-words}
 
 -- a lane of what a vector instruction makes of two vectors
 pub by_lane : (g : ℕ → ℕ → ℕ) (x y : List ℕ) (j : ℕ) → length x ≡ 8 → length y ≡ 8 → j < 8 → get_or (zip2 g x y) j 0 ≡ g (get_or x j 0) (get_or y j 0)
@@ -42,13 +42,13 @@ module _ {W : Type 0} (lane : W → ℕ → ℕ) where
       let l = length-column w j in
       rw (column-set w x t j) (more_first b (column lane w j) t (lane x j) (omega arith) ex e)
 
-  -- a lane after t rounds, and after one more
-  pub lane_more : (start : State ℕ) (s r : State W) (w : List W) (x : W) (j t k u : ℕ)
-      → t < length w → state_at lane s j ≡ steps start (column lane w j) t → state_at lane r j ≡ step (state_at lane s j) k (lane (get_or w t x) j)
-      → k ≡ get_or K t 0 → x ≡ get_or w t x → u ≡ t + 1 → state_at lane r j ≡ steps start (column lane w j) u
-  lane_more start s r w x j t k u h es er ek ex eu =
+  -- one more round, of a lane
+  pub lane_more : (start : State ℕ) (w : List W) (x : W) (j t k : ℕ) → t < length w → k ≡ get_or K t 0 → x ≡ get_or w t x
+      → step (steps start (column lane w j) t) k (lane x j) ≡ steps start (column lane w j) (t + 1)
+  lane_more start w x j t k h ek ex =
       let g = in_column w x j t h ex in
-      one_more start (state_at lane s j) (state_at lane r j) (column lane w j) t k (lane (get_or w t x) j) u es er ek (cc) eu
+      let m = steps-more start (column lane w j) t in
+      cc
 
   -- one more word of the schedule
   pub column_words : (b : List ℕ) (w : List W) (x : W) (n j : ℕ)

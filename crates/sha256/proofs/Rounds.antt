@@ -53,14 +53,9 @@ pub no_steps : (s : State ℕ) (w : List ℕ) → s ≡ steps s w 0
 unfolding steps
 no_steps s w = refl
 
-steps-more : (s : State ℕ) (w : List ℕ) (t : ℕ) → steps s w (t + 1) ≡ step (steps s w t) (get_or K t 0) (get_or w t 0)
+pub steps-more : (s : State ℕ) (w : List ℕ) (t : ℕ) → steps s w (t + 1) ≡ step (steps s w t) (get_or K t 0) (get_or w t 0)
 unfolding steps
 steps-more s w t = rw add-one
-
--- a state s after t rounds is a state r after one more
-pub one_more : (start s r : State ℕ) (w : List ℕ) (t k x u : ℕ)
-    → s ≡ steps start w t → r ≡ step s k x → k ≡ get_or K t 0 → x ≡ get_or w t 0 → u ≡ t + 1 → r ≡ steps start w u
-one_more start s r w t k x u es er ek ex eu = let m = steps-more start w t in cc
 
 -- rounds read only the words before them
 pub steps_front : (s : State ℕ) (w v : List ℕ) (t : ℕ) → t ≤ length w → steps s (w ++ v) t ≡ steps s w t

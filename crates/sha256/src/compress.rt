@@ -89,6 +89,7 @@ fn step<W: Words>(s: State<W>, k: u32, w: W) -> State<W>
 }
 
 // Eight rounds from round t on, so that the compiler renames the words and moves none.
+#[tactic(auto, using(crate::proofs::Lanes::lane_more))]
 fn eight_steps<W: Words>(s: State<W>, w: &[W; 64], t: usize) -> State<W>
     requires { t + 8 ≤ 64 }
     ensures { (j : ℕ) → j < W.lanes → (start : State ℕ) → state_at W.lane s j ≡ steps start (column W.lane w.now j) t → state_at W.lane result j ≡ steps start (column W.lane w.now j) (t + 8) }
