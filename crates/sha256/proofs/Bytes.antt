@@ -5,7 +5,7 @@ use Rattle.std.specs.Simd.{first_chunks}
 use Rattle.std.proofs.lemmas.Simd.{get_or-chunk}
 use Rattle.std.proofs.lemmas.Nat.{field_of}
 use Rattle.std.specs.List.{flat_map}
-use Rattle.std.proofs.lemmas.List.{append_assoc, drop-replicate, flat_map_more, length-append, length-take-le, set_at, take_all, take_at, take_more}
+use Rattle.std.proofs.lemmas.List.{append_assoc, append-nil, drop_all, drop-replicate, flat_map_more, length-append, length-take-le, set_at, take_all, take_at, take_more}
 use Rattle.sha256.specs.Sha256.{bytes, word}
 
 pub length-bytes : (k x : ℕ) → length (bytes k x) ≡ k
@@ -36,6 +36,11 @@ bytes-mod (suc k) w x h =
     let b = byte_mod x i (8 * k) in
     let r = bytes-mod k w x (omega arith) in
     cc
+
+pub bytes_wrapped : (x : ℕ) → bytes 8 (x % 2 ^ 64) ≡ bytes 8 x
+bytes_wrapped x = bytes-mod 8 64 x (omega arith)
+
+pub ruleset sized_laws = (bytes_eight, bytes_wrapped, length-bytes, drop_all, append-nil)
 
 -- the number of bits, from the number of bytes modulo 2 ^ 64
 pub bits_mod : (n t : ℕ) → n % 2 ^ 64 ≡ t → bytes 8 (8 * t) ≡ bytes 8 (8 * n)

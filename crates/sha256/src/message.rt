@@ -24,6 +24,7 @@ pub(crate) fn blocks(start: State<u32>, part: &[u8]) -> (State<u32>, &[u8])
 }
 
 // The block with the number of bits in its last eight bytes.
+#[tactic(auto, using(crate::proofs::Bytes::sized_laws))]
 fn sized(start: [u8; 64], total: u64) -> [u8; 64]
     ensures { result ≡ take 56 start ++ bytes_of 8 (8 * total) }
 {
