@@ -5,7 +5,7 @@ use Rattle.std.specs.Simd.{first_chunks}
 use Rattle.std.proofs.lemmas.Simd.{get_or-chunk}
 use Rattle.std.proofs.lemmas.Nat.{field_of}
 use Rattle.std.specs.List.{flat_map}
-use Rattle.std.proofs.lemmas.List.{append_assoc, append-nil, drop_all, drop-replicate, flat_map_more, length-append, length-take-le, set_at, take_all, take_at, take_more}
+use Rattle.std.proofs.lemmas.List.{append_assoc, append-nil, drop_all, drop-replicate, flat_map_more, length-append, length-drop, length-take, length-take-le, set_at, take_all, take_at, take_more}
 use Rattle.sha256.specs.Sha256.{bytes, word}
 
 pub length-bytes : (k x : ℕ) → length (bytes k x) ≡ k
@@ -99,6 +99,8 @@ words_more out words ys z i h l ey e =
     let n : length (take (4 * i) out ++ ys) ≡ 4 * (i + 1) = omega (arith, length-append (take (4 * i) out) ys, ly, lo) in
     let f = take_at (take (4 * i) out ++ ys) z (4 * (i + 1)) n in
     cc
+
+pub ruleset words_laws = (words_more, bytes-four, length-append, length-take, length-drop)
 
 pub words-all : (words out : List ℕ) (i : ℕ)
     → i ≡ 8 → length words ≡ 8 → length out ≡ 32 → take (4 * i) out ≡ flat_map (bytes 4) (take i words)

@@ -46,6 +46,7 @@ fn last(s: State<u32>, rest: &[u8], total: u64) -> State<u32>
     }
 }
 
+#[tactic(auto, using(crate::proofs::Bytes::words_laws))]
 fn bytes(words: [u32; 8]) -> [u8; 32]
     ensures { result ≡ flat_map (bytes_of 4) words }
 {
