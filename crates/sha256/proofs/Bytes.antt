@@ -101,11 +101,3 @@ words_more out words ys z i h l ey e =
     cc
 
 pub ruleset words_laws = (words_more, bytes-four, length-append, length-take, length-drop)
-
-pub words-all : (words out : List ℕ) (i : ℕ)
-    → i ≡ 8 → length words ≡ 8 → length out ≡ 32 → take (4 * i) out ≡ flat_map (bytes 4) (take i words)
-    → out ≡ flat_map (bytes 4) words
-words-all words out i e lw l h =
-    let a = take_all (4 * i) out (omega arith) in
-    let b = take_all i words (omega arith) in
-    cc

@@ -5,7 +5,7 @@ use Rattle.std.specs.Simd.{first_chunks}
 use Rattle.std.proofs.lemmas.List.{append_assoc, append-nil, drop-take, take-take, take_at, take-append-drop, length-append, length-replicate, length-drop, length-take-le, replicate-append-replicate}
 use Rattle.sha256.specs.declared.state.State.{State}
 use Rattle.sha256.specs.Sha256.{H0, bytes, zeros, padding, padded, block, compress, hashed, output, sha256}
-use Rattle.sha256.proofs.Bytes.{length-bytes, bits_mod, chunk_drop}
+use Rattle.sha256.proofs.Bytes.{length-bytes, bits_mod, chunk_drop, mark_after}
 
 pub hashed_none : (s : State ℕ) (p : List ℕ) → s ≡ hashed s p 0
 unfolding hashed
@@ -156,31 +156,24 @@ length_sized b x h =
     let l = length-bytes 8 x in
     omega (arith, a, t, l)
 
-pub last_here : (s : State ℕ) (rest b z : List ℕ) (n t : ℕ)
-    → n % 64 ≡ length rest → n % 2 ^ 64 ≡ t → length rest < 56 → b ≡ mark rest → z ≡ take 56 b ++ bytes 8 (8 * t)
-    → compress s z ≡ hashed s (rest ++ padding n) (length (rest ++ padding n) / 64)
-last_here s rest b z n t e f h eb ez =
+pub last_here : (s : State ℕ) (rest : List ℕ) (n t : ℕ) → n % 64 ≡ length rest → n % 2 ^ 64 ≡ t → length rest < 56
+    → compress s (take 56 (mark rest) ++ bytes 8 (8 * t)) ≡ hashed s (rest ++ padding n) (length (rest ++ padding n) / 64)
+last_here s rest n t e f h =
     let m : length (mark rest) ≡ 64 = omega (arith, length_mark rest (63 - length rest)) in
-    let l = length_sized (mark rest) (8 * t) m in
+    let o = one_block s _ (length_sized (mark rest) (8 * t) m) in
     let p = padding_here rest n t e f h in
-    let k : z ≡ rest ++ padding n = cc in
-    let lz : length z ≡ 64 = cc in
-    let o = one_block s z lz in
     cc
 
-pub last_next : (s : State ℕ) (rest b z : List ℕ) (n t : ℕ)
-    → n % 64 ≡ length rest → n % 2 ^ 64 ≡ t → 56 ≤ length rest → length rest < 64 → b ≡ mark rest
-    → z ≡ take 56 (replicate 64 0) ++ bytes 8 (8 * t)
-    → compress (compress s b) z ≡ hashed s (rest ++ padding n) (length (rest ++ padding n) / 64)
-last_next s rest b z n t e f h g eb ez =
+pub last_next : (s : State ℕ) (rest : List ℕ) (n t : ℕ) → n % 64 ≡ length rest → n % 2 ^ 64 ≡ t → 56 ≤ length rest → length rest < 64
+    → compress (compress s (mark rest)) (take 56 (replicate 64 0) ++ bytes 8 (8 * t)) ≡ hashed s (rest ++ padding n) (length (rest ++ padding n) / 64)
+last_next s rest n t e f h g =
     let m : length (mark rest) ≡ 64 = omega (arith, length_mark rest (63 - length rest)) in
-    let l = length_sized (replicate 64 0) (8 * t) refl in
+    let z = take 56 (replicate 64 0) ++ bytes 8 (8 * t) in
+    let o = two_blocks s (mark rest) z m (length_sized (replicate 64 0) (8 * t) refl) in
     let p = padding-next rest n t e f h g in
-    let k : b ++ z ≡ rest ++ padding n = cc in
-    let lb : length b ≡ 64 = cc in
-    let lz : length z ≡ 64 = cc in
-    let o = two_blocks s b z lb lz in
     cc
+
+pub ruleset last_laws = (mark_after, last_here, last_next)
 
 -- the digest, from the whole blocks and the rest
 pub sha256-rest : (m rest : List ℕ) (q : ℕ)

@@ -32,6 +32,7 @@ fn sized(start: [u8; 64], total: u64) -> [u8; 64]
 }
 
 // The hash value after what is left of a message, `rest`, with the padding of the whole.
+#[tactic(auto, using(crate::proofs::Messages::last_laws))]
 fn last(s: State<u32>, rest: &[u8], total: u64) -> State<u32>
     requires { length rest.now < 64 }
     ensures { (n : ℕ) → n % 64 ≡ length rest.now → n % 2 ^ 64 ≡ total → result ≡ hashed s (rest.now ++ padding n) (length (rest.now ++ padding n) / 64) }
