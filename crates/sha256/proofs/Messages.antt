@@ -176,13 +176,15 @@ last_next s rest n t e f h g =
 pub ruleset last_laws = (mark_after, last_here, last_next)
 
 -- the digest, from the whole blocks and the rest
-pub sha256-rest : (m rest : List ℕ) (q : ℕ)
-    → q ≡ length m / 64 → rest ≡ drop (64 * q) m
-    → output (hashed (hashed H0 m q) (rest ++ padding (length m)) (length (rest ++ padding (length m)) / 64)) ≡ sha256 m
+pub sha256_left : (m : List ℕ)
+    → let q = length m / 64 in let rest = drop (64 * q) m in
+    sha256 m ≡ output (hashed (hashed H0 m q) (rest ++ padding (length m)) (length (rest ++ padding (length m)) / 64))
 unfolding sha256 padded
-sha256-rest m rest q eq er =
+sha256_left m =
     let n = length m in
+    let q = n / 64 in
     let p = take (64 * q) m in
+    let rest = drop (64 * q) m in
     let lp : length p ≡ 64 * q = length-take-le (64 * q) m (omega arith) in
     let t = take-append-drop (64 * q) m in
     let a = append_assoc p rest (padding n) in
@@ -193,15 +195,4 @@ sha256-rest m rest q eq er =
     let f = hashed-take H0 m q (64 * q) (omega arith) in
     ap output (cc)
 
-pub length_rest : (m rest : List ℕ) → rest ≡ drop (64 * (length m / 64)) m → length m % 64 ≡ length rest
-length_rest m rest e =
-    let l = ap length e in
-    let d = length-drop (64 * (length m / 64)) m in
-    omega (arith, l, d)
-
-pub sha256-left : (m rest : List ℕ) (s : State ℕ)
-    → s ≡ hashed H0 m (length m / 64) → rest ≡ drop (64 * (length m / 64)) m
-    → output (hashed s (rest ++ padding (length m)) (length (rest ++ padding (length m)) / 64)) ≡ sha256 m
-sha256-left m rest s es er =
-    ap (λ (t : State ℕ). output (hashed t (rest ++ padding (length m)) (length (rest ++ padding (length m)) / 64))) es
-    ∙ sha256-rest m rest (length m / 64) refl er
+pub ruleset digest_laws = (sha256_left, length-drop)
