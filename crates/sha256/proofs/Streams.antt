@@ -14,6 +14,8 @@ total-more m part t e =
     let a = mod-add-mod (length m) (2 ^ 64) (length part) in
     cc
 
+pub ruleset short_laws = (hashed_front, drop-append-le, length-append, mod-add-mod)
+
 -- a part that does not fill the block
 module _ (m part : List ℕ) (held : ℕ) (eh : held ≡ length m % 64) (room : held + length part < 64) where
   short_quotient : length (m ++ part) / 64 ≡ length m / 64
