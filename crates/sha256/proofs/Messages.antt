@@ -194,5 +194,3 @@ sha256_left m =
     let h = hashed-after H0 p (rest ++ padding n) q (length (rest ++ padding n) / 64) lp in
     let f = hashed-take H0 m q (64 * q) (omega arith) in
     ap output (cc)
-
-pub ruleset digest_laws = (sha256_left, length-drop)

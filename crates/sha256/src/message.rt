@@ -66,7 +66,6 @@ pub fn output(s: State<u32>) -> [u8; 32]
 }
 
 // The digest of a message, of which `s` has the whole blocks and `rest` what is left.
-#[tactic(auto, using(crate::proofs::Messages::digest_laws))]
 pub(crate) fn finished(s: State<u32>, rest: &[u8], total: u64) -> [u8; 32]
     requires { length rest.now < 64 }
     ensures { (m : List ℕ) → Left s rest.now total m → result ≡ sha256 m }
