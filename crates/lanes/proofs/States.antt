@@ -1,18 +1,21 @@
 -- A list that is filled, and the front of a column; a text of 39 bytes is one block.
 use Rattle.std.proofs.Common.{◌≡◌, ℕ, suc, ◌+◌, ◌-◌, ◌*◌, ◌<◌, ◌≤◌, List, [], ◌∷◌, ◌++◌, map, length, get_or, set, take, replicate, sym, ap, ◌∙◌, arith}
 use Rattle.std.proofs.lemmas.List.Edits.{fill_by_more}
-use Rattle.std.proofs.lemmas.List.{get_or_append_left, get_or-append_right, get_or-replicate, length-append, take-append-le, take-map}
+use Rattle.std.proofs.lemmas.List.{get_or_append_left, get_or-append_right, get_or-replicate, length-append, length-set, take-append-le, take-map}
 use Rattle.sha256.specs.Lane.{column}
 use Rattle.sha256.specs.Sha256.{H0, bytes, zeros, padding, padded, word, compress, output, sha256}
+use Rattle.sha256.proofs.Lanes.{column_first}
 use Rattle.sha256.proofs.Messages.{one_block}
 use Rattle.lanes.specs.Lane.{lane}
 
 -- the front of a column is that of the values in front
-pub column-front : (xs ys : List (List ℕ)) (n j : ℕ) → n ≤ length xs → take n (column lane (xs ++ ys) j) ≡ take n (column lane xs j)
+pub column_front : (xs ys : List (List ℕ)) (n j : ℕ) → n ≤ length xs → take n (column lane (xs ++ ys) j) ≡ take n (column lane xs j)
 unfolding column
-column-front xs ys n j h =
+column_front xs ys n j h =
     let f : List ℕ → ℕ = λ x. lane x j in
     take-map f n (xs ++ ys) ∙ (ap (map f) (take-append-le n xs ys h) ∙ sym (take-map f n xs))
+
+pub ruleset load_laws = (column_first, length-set)
 
 -- a list whose places are filled one after the other
 pub put-more : {X : Type 0} (f : ℕ → X) (xs : List X) (i : ℕ) (y d : X)
@@ -27,7 +30,7 @@ padded-text : (text : List ℕ) → length text ≡ 39 → padded text ≡ text 
 unfolding padded padding zeros bytes
 padded-text text e = ap (λ (n : ℕ). text ++ padding n) e
 
-pub word_front : (text : List ℕ) (t : ℕ) → length text ≡ 39 → t < 9 → word text t ≡ word (padded text) t
+pub word_front : (text : List ℕ) (t : ℕ) → length text ≡ 39 → t < 9 → word (padded text) t ≡ word text t
 unfolding word
 word_front text t e h =
     let p = padded-text text e in
@@ -77,8 +80,8 @@ word_size text e =
     let d = get_or-append_right text tail 39 63 0 e (omega arith) in
     rw (p, a, b, c, d)
 
-pub sha256-text : (text : List ℕ) → length text ≡ 39 → output (compress H0 (padded text)) ≡ sha256 text
+pub sha256_text : (text : List ℕ) → length text ≡ 39 → sha256 text ≡ output (compress H0 (padded text))
 unfolding sha256
-sha256-text text e =
+sha256_text text e =
     let l : length (padded text) ≡ 64 = omega (arith, ap length (padded-text text e), length-append text tail) in
-    ap output (one_block H0 (padded text) l)
+    ap output (sym (one_block H0 (padded text) l))

@@ -35,10 +35,10 @@ module _ {W : Type 0} (lane : W → ℕ → ℕ) where
   column-set w x i j = map-set (λ y. lane y j) w i x
 
   -- one more value of a block
-  pub column-first : (b : List ℕ) (w : List W) (x : W) (t j : ℕ)
+  pub column_first : (b : List ℕ) (w : List W) (x : W) (t j : ℕ)
       → t < length w → lane x j ≡ word b t → take t (column lane w j) ≡ map (word b) (range_with_len 0 t)
       → take (t + 1) (column lane (set w t x) j) ≡ map (word b) (range_with_len 0 (t + 1))
-  column-first b w x t j h ex e =
+  column_first b w x t j h ex e =
       let l = length-column w j in
       rw (column-set w x t j) (more_first b (column lane w j) t (lane x j) (omega arith) ex e)
 

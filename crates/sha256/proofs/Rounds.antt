@@ -1,5 +1,5 @@
 -- One more word of the schedule and one more round, where they begin and where they end.
-use Rattle.std.proofs.Common.{◌≡◌, ℕ, zero, suc, ◌+◌, ◌<◌, ◌≤◌, List, [], ◌∷◌, ◌++◌, map, length, get_or, take, drop, set, refl, subst, add-one, arith}
+use Rattle.std.proofs.Common.{◌≡◌, ℕ, zero, suc, ◌+◌, ◌<◌, ◌≤◌, List, [], ◌∷◌, ◌++◌, map, length, get_or, take, drop, set, refl, ap, add-one, arith}
 use Rattle.std.specs.List.{range_with_len}
 use Rattle.std.proofs.lemmas.List.FromFn.{map-range_with_len_more}
 use Rattle.std.proofs.lemmas.List.{get_or_append_left, get_or-take, length-set, length_push, take-append-drop, take_more_set}
@@ -16,9 +16,9 @@ more_first b w t x h ex e =
     let f = map-range_with_len_more (word b) 0 t t (omega arith) in
     cc
 
-pub first_words : (b w : List ℕ) (t : ℕ) → t ≡ 16 → take t w ≡ map (word b) (range_with_len 0 t) → take 16 w ≡ schedule b 0
+pub first_words : (b : List ℕ) (t : ℕ) → t ≡ 16 → map (word b) (range_with_len 0 t) ≡ schedule b 0
 unfolding schedule
-first_words b w t e h = subst (λ (n : ℕ). take n w ≡ map (word b) (range_with_len 0 n)) e h
+first_words b t e = ap (λ (n : ℕ). map (word b) (range_with_len 0 n)) e
 
 pub ruleset block_laws = (more_first, first_words, word_at, length-set)
 
@@ -45,9 +45,6 @@ more-words b w n m x em h e ex =
     let s = schedule-more b n in
     let k = next-take w n in
     cc
-
-pub words-at : (w b : List ℕ) (n m : ℕ) → n ≡ m → take (n + 16) w ≡ schedule b n → take (m + 16) w ≡ schedule b m
-words-at w b n m e h = subst (λ (k : ℕ). take (k + 16) w ≡ schedule b k) e h
 
 pub no_steps : (s : State ℕ) (w : List ℕ) → s ≡ steps s w 0
 unfolding steps
