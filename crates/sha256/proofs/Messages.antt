@@ -1,8 +1,7 @@
 -- Blocks one after the other, and the digest of a message from what its whole blocks left.
 use Rattle.std.proofs.Common.{◌≡◌, ℕ, zero, suc, ◌+◌, ◌-◌, ◌*◌, ◌/◌, ◌%◌, ◌^◌, ◌<◌, ◌≤◌, List, [], ◌∷◌, ◌++◌, length, get_or, take, drop, replicate, sym, refl, ap, ◌∙◌, add-zero, add-one, arith}
-use lib.Seq.{drop-append-add}
 use Rattle.std.specs.Simd.{first_chunks}
-use Rattle.std.proofs.lemmas.List.{append_assoc, append-nil, drop-take, take-take, take_all, take_at, take-append-drop, length-append, length-replicate, length-drop, length-take-le, replicate-append-replicate}
+use Rattle.std.proofs.lemmas.List.{append_assoc, append-nil, drop_at, drop-append-le, drop-drop, drop-take, take-take, take_all, take_at, take-append-drop, length-append, length-replicate, length-drop, length-take-le, replicate-append-replicate}
 use Rattle.sha256.specs.declared.state.State.{State}
 use Rattle.sha256.specs.Sha256.{H0, bytes, zeros, padding, padded, block, compress, hashed, output, sha256}
 use Rattle.sha256.proofs.Bytes.{length-bytes, bits_mod, chunk_drop, mark_after}
@@ -35,17 +34,13 @@ pub hashed_front : (s : State ℕ) (p q : List ℕ) (n : ℕ) → 64 * n ≤ len
 hashed_front s p q n h = cc (hashed-take s (p ++ q) n (length p) h, take_at p q (length p) refl)
 
 -- blocks after blocks
-block-after : (p q : List ℕ) (k n : ℕ) → length p ≡ 64 * k → block (p ++ q) (k + n) ≡ block q n
-unfolding block
-block-after p q k n h = grind (arith, drop-append-add)
-
-pub hashed-after : (s : State ℕ) (p q : List ℕ) (k n : ℕ)
-    → length p ≡ 64 * k → hashed s (p ++ q) (k + n) ≡ hashed (hashed s p k) q n
-unfolding hashed
-hashed-after s p q k zero h = cc (hashed_front s p q k (omega arith), add-zero k)
-hashed-after s p q k (suc n) h =
+pub hashed_drop : (s : State ℕ) (p : List ℕ) (k n : ℕ) → hashed s p (k + n) ≡ hashed (hashed s p k) (drop (64 * k) p) n
+unfolding block hashed
+hashed_drop s p k zero = cc (add-zero k)
+hashed_drop s p k (suc n) =
     let u : k + suc n ≡ suc (k + n) = omega arith in
-    cc (hashed-after s p q k n h, block-after p q k n h)
+    let v : 64 * k + 64 * n ≡ 64 * (k + n) = omega arith in
+    cc (hashed_drop s p k n, drop-drop (64 * n) (64 * k) p)
 
 -- one block, and two
 pub one_block : (s : State ℕ) (p : List ℕ) → length p ≡ 64 → compress s p ≡ hashed s p (length p / 64)
@@ -56,7 +51,11 @@ one_block s p h =
 
 two_blocks : (s : State ℕ) (p q : List ℕ)
     → length p ≡ 64 → length q ≡ 64 → compress (compress s p) q ≡ hashed s (p ++ q) (length (p ++ q) / 64)
-two_blocks s p q h l = let a = hashed-after s p q 1 1 h in grind (arith, length-append, one_block)
+two_blocks s p q h l =
+    let e : length (p ++ q) / 64 ≡ 1 + 1 = omega (arith, length-append p q) in
+    let x : length p / 64 ≡ 1 = omega arith in
+    let y : length q / 64 ≡ 1 = omega arith in
+    cc (hashed_drop s (p ++ q) 1 1, hashed_front s p q 1 (omega arith), drop_at p q 64 h, one_block s p h, one_block (compress s p) q l)
 
 -- what the padding adds to what is left of a message of n bytes: up to the end of this block, or of the next
 abbrev pub mark : List ℕ → List ℕ
@@ -130,14 +129,8 @@ unfolding sha256 padded
 sha256_left m =
     let n = length m in
     let q = n / 64 in
-    let p = take (64 * q) m in
-    let rest = drop (64 * q) m in
-    let lp : length p ≡ 64 * q = length-take-le (64 * q) m (omega arith) in
-    let t = take-append-drop (64 * q) m in
-    let a = append_assoc p rest (padding n) in
-    let k : m ++ padding n ≡ p ++ (rest ++ padding n) = cc in
-    let l : length (m ++ padding n) ≡ length p + length (rest ++ padding n) = ap length k ∙ length-append p (rest ++ padding n) in
-    let d : length (m ++ padding n) / 64 ≡ q + length (rest ++ padding n) / 64 = omega arith in
-    let h = hashed-after H0 p (rest ++ padding n) q (length (rest ++ padding n) / 64) lp in
-    let f = hashed-take H0 m q (64 * q) (omega arith) in
-    ap output (cc)
+    let rest = drop (64 * q) m ++ padding n in
+    let d : length (m ++ padding n) / 64 ≡ q + length rest / 64 = omega (arith, length-append m (padding n), length-append (drop (64 * q) m) (padding n), length-drop (64 * q) m) in
+    let a = drop-append-le (64 * q) m (padding n) (omega arith) in
+    let f = hashed_front H0 m (padding n) q (omega arith) in
+    ap output (cc (hashed_drop H0 (m ++ padding n) q (length rest / 64)))
