@@ -11,10 +11,7 @@ use Rattle.sha256.specs.Sha256.{K, word, step, steps, next, schedule, sum, compr
 pub more_first : (b w : List ℕ) (t x : ℕ)
     → t < length w → x ≡ word b t → take t w ≡ map (word b) (range_with_len 0 t)
     → take (t + 1) (set w t x) ≡ map (word b) (range_with_len 0 (t + 1))
-more_first b w t x h ex e =
-    let p = take_more_set w t x h in
-    let f = map-range_with_len_more (word b) 0 t t (omega arith) in
-    cc
+more_first b w t x h ex e = cc (take_more_set w t x h, map-range_with_len_more (word b) 0 t t (omega arith))
 
 pub first_words : (b : List ℕ) (t : ℕ) → t ≡ 16 → map (word b) (range_with_len 0 t) ≡ schedule b 0
 unfolding schedule
@@ -25,26 +22,11 @@ pub ruleset block_laws = (more_first, first_words, word_at, length-set)
 -- a next word reads only the words before it
 pub next-take : (w : List ℕ) (n : ℕ) → next (take (n + 16) w) n ≡ next w n
 unfolding next
-next-take w n =
-    cc (
-      get_or-take (n + 16) w (n + 14) 0 (omega arith),
-      get_or-take (n + 16) w (n + 9) 0 (omega arith),
-      get_or-take (n + 16) w (n + 1) 0 (omega arith),
-      get_or-take (n + 16) w n 0 (omega arith),
-    )
+next-take w n = grind (arith, get_or-take)
 
-schedule-more : (b : List ℕ) (n : ℕ) → schedule b (n + 1) ≡ schedule b n ++ next (schedule b n) n ∷ []
+pub schedule-more : (b : List ℕ) (n : ℕ) → schedule b (n + 1) ≡ schedule b n ++ next (schedule b n) n ∷ []
 unfolding schedule
 schedule-more b n = rw add-one
-
-pub more-words : (b w : List ℕ) (n m x : ℕ)
-    → m ≡ n + 16 + 1 → n + 16 < length w → take (n + 16) w ≡ schedule b n → x ≡ next w n
-    → take m (set w (n + 16) x) ≡ schedule b (n + 1)
-more-words b w n m x em h e ex =
-    let t = take_more_set w (n + 16) x h in
-    let s = schedule-more b n in
-    let k = next-take w n in
-    cc
 
 pub no_steps : (s : State ℕ) (w : List ℕ) → s ≡ steps s w 0
 unfolding steps
@@ -55,27 +37,19 @@ unfolding steps
 steps-more s w t = rw add-one
 
 -- rounds read only the words before them
-pub steps_front : (s : State ℕ) (w v : List ℕ) (t : ℕ) → t ≤ length w → steps s (w ++ v) t ≡ steps s w t
+steps_front : (s : State ℕ) (w v : List ℕ) (t : ℕ) → t ≤ length w → steps s (w ++ v) t ≡ steps s w t
 unfolding steps
 steps_front s w v zero h = refl
-steps_front s w v (suc t) h =
-    let e = steps_front s w v t (omega arith) in
-    let g = get_or_append_left w v 0 t h in
-    cc
+steps_front s w v (suc t) h = cc (steps_front s w v t (omega arith), get_or_append_left w v 0 t h)
 
 length-schedule : (b : List ℕ) (n : ℕ) → length (schedule b n) ≡ n + 16
 unfolding schedule
 length-schedule b zero = refl
-length-schedule b (suc n) =
-    let a = length_push (schedule b n) (next (schedule b n) n) in
-    let e = length-schedule b n in
-    omega (arith, a, e)
+length-schedule b (suc n) = omega (arith, length_push (schedule b n) (next (schedule b n) n), length-schedule b n)
 
 -- all rounds, on all words
 pub all_steps : (s : State ℕ) (b w : List ℕ) (t : ℕ) → t ≡ 64 → take 64 w ≡ schedule b 48 → sum s (steps s w t) ≡ compress s b
 unfolding compress
 all_steps s b w t e h =
-    let a = take-append-drop 64 w in
     let l = length-schedule b 48 in
-    let f = steps_front s (schedule b 48) (drop 64 w) 64 (omega arith) in
-    cc
+    cc (take-append-drop 64 w, steps_front s (schedule b 48) (drop 64 w) 64 (omega arith))
