@@ -1,5 +1,5 @@
 // One block of each message: the message schedule, the sixty-four rounds and the sum.
-ghost use Rattle.std.specs.Prelude.{◌≡◌, ℕ, ◌+◌, ◌*◌, ◌<◌, ◌≤◌, List, length, take};
+ghost use Rattle.std.specs.Prelude.{◌≡◌, ℕ, ◌+◌, ◌<◌, ◌≤◌, List, take};
 ghost use Rattle.sha256.specs.declared.state.State.{State};
 ghost use Rattle.sha256.specs.Lane.{column, state_at};
 ghost use Rattle.sha256.specs.Sha256.{H0, next as next_of, schedule as scheduled, step as stepped, steps, sum as sum_of, compress as compressed};

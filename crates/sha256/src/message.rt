@@ -1,7 +1,7 @@
 // A whole message: its blocks, the last block or two with the padding, and the bytes of the digest.
-ghost use Rattle.std.specs.Prelude.{◌≡◌, ℕ, ◌+◌, ◌-◌, ◌*◌, ◌/◌, ◌%◌, ◌^◌, ◌<◌, ◌≤◌, List, [], ◌∷◌, ◌++◌, length, take, drop, replicate};
+ghost use Rattle.std.specs.Prelude.{◌≡◌, ℕ, ◌*◌, ◌/◌, ◌%◌, ◌^◌, ◌<◌, List, ◌++◌, length, take, drop};
 ghost use Rattle.std.specs.List.{flat_map};
-ghost use Rattle.sha256.specs.Sha256.{H0, bytes as bytes_of, padding, hashed, output as outputOf, sha256};
+ghost use Rattle.sha256.specs.Sha256.{bytes as bytes_of, padding, hashed, output as outputOf, sha256};
 ghost use Rattle.sha256.specs.Stream.{Left};
 
 use crate::block::{compress, filled};
