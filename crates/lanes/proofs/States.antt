@@ -1,7 +1,7 @@
 -- A list that is filled, and the front of a column; a text of 39 bytes is one block.
-use Rattle.std.proofs.Common.{◌≡◌, ℕ, suc, ◌+◌, ◌-◌, ◌*◌, ◌<◌, ◌≤◌, List, [], ◌∷◌, ◌++◌, map, length, get_or, set, take, replicate, sym, ap, ◌∙◌, arith}
+use Rattle.std.proofs.Common.{◌≡◌, ℕ, ◌+◌, ◌-◌, ◌*◌, ◌<◌, ◌≤◌, List, [], ◌∷◌, ◌++◌, length, get_or, set, take, replicate, sym, ap, ◌∙◌, arith}
 use Rattle.std.proofs.lemmas.List.Edits.{fill_by_more}
-use Rattle.std.proofs.lemmas.List.{get_or_append_left, get_or-append_right, get_or-replicate, length-append, length-set, take-append-le, take-map}
+use Rattle.std.proofs.lemmas.List.{get_or_append_left, get_or-append_right, length-append, length-set, take-append-le, take-map}
 use Rattle.sha256.specs.Lane.{column}
 use Rattle.sha256.specs.Sha256.{H0, bytes, zeros, padding, padded, word, compress, output, sha256}
 use Rattle.sha256.proofs.Lanes.{column_first}

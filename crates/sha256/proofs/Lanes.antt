@@ -1,5 +1,5 @@
 -- Messages side by side: a vector's shift, and what a column of values and a state have in each lane.
-use Rattle.std.proofs.Common.{◌≡◌, ℕ, ◌+◌, ◌<◌, List, [], ◌∷◌, map, length, get_or, set, take, refl, ap, arith}
+use Rattle.std.proofs.Common.{◌≡◌, ℕ, ◌+◌, ◌<◌, List, map, length, get_or, set, take, arith}
 use lib.Lanes.{zip2}
 use Rattle.std.specs.List.{range_with_len}
 use Rattle.std.proofs.lemmas.List.{get_or-map, length-map, map-set}
@@ -7,7 +7,7 @@ use Rattle.std.proofs.lemmas.Grind.{take-set_at}
 use Rattle.std.proofs.lemmas.Simd.{get_or-zip2, length-zip2}
 use Rattle.sha256.specs.declared.state.State.{State}
 use Rattle.sha256.specs.Sha256.{K, word, next, schedule, step, steps}
-use Rattle.sha256.specs.Lane.{column, state_at}
+use Rattle.sha256.specs.Lane.{column}
 use Rattle.sha256.proofs.Rounds.{more_first, next-take, schedule-more, steps-more}
 
 -- a lane of what a vector instruction makes of two vectors
