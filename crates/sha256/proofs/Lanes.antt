@@ -1,4 +1,4 @@
--- Messages side by side: a vector's shift, and what a column of values and a state have in each lane.
+-- Messages side by side: a lane of two vectors, and what a column of values and a state have in each lane.
 use Rattle.std.proofs.Common.{◌≡◌, ℕ, ◌+◌, ◌<◌, List, map, length, get_or, set, take, arith}
 use lib.Lanes.{zip2}
 use Rattle.std.specs.List.{range_with_len}
