@@ -1,5 +1,5 @@
 -- Blocks one after the other, and the digest of a message from what its whole blocks left.
-use Rattle.std.proofs.Common.{◌≡◌, ℕ, zero, suc, ◌+◌, ◌-◌, ◌*◌, ◌/◌, ◌%◌, ◌^◌, ◌<◌, ◌≤◌, List, ◌∷◌, ◌++◌, length, get_or, take, drop, replicate, sym, refl, ap, ◌∙◌, add-zero, add-one, arith}
+use Rattle.std.proofs.Common.{◌≡◌, ℕ, zero, suc, ◌+◌, ◌-◌, ◌*◌, ◌/◌, ◌%◌, ◌^◌, ◌<◌, ◌≤◌, List, ◌∷◌, ◌++◌, length, get_or, take, drop, replicate, refl, ap, add-zero, add-one, arith}
 use Rattle.std.specs.Simd.{first_chunks}
 use Rattle.std.proofs.lemmas.List.{append_assoc, drop_at, drop-append-le, drop-drop, drop-take, take-take, take_all, take_at, length-append, length-replicate, length-drop, length-take-le, replicate-append-replicate}
 use Rattle.sha256.specs.declared.state.State.{State}
@@ -95,14 +95,8 @@ padding-next : (rest : List ℕ) (n t : ℕ)
 unfolding padding
 padding-next rest n t e f h l =
     let k = 63 - length rest in
-    let z = zeros-next n (length rest) e h l in
-    let b = bits_mod n t f in
-    let r = replicate-append-replicate {A = ℕ} k 56 0 in
-    let x = append_assoc (replicate k 0) (replicate 56 0) (bytes 8 (8 * n)) in
-    let a = append_assoc rest (0x80 ∷ replicate k 0) (replicate 56 0 ++ bytes 8 (8 * n)) in
-    let w : replicate (zeros n) 0 ++ bytes 8 (8 * n) ≡ replicate k 0 ++ (replicate 56 0 ++ bytes 8 (8 * n)) = cc in
-    let y : rest ++ padding n ≡ rest ++ (0x80 ∷ (replicate k 0 ++ (replicate 56 0 ++ bytes 8 (8 * n)))) = ap (λ (v : List ℕ). rest ++ 0x80 ∷ v) w in
-    y ∙ (sym a ∙ ap (λ (v : List ℕ). mark rest ++ (replicate 56 0 ++ v)) (sym b))
+    let z = replicate 56 0 ++ bytes 8 (8 * n) in
+    cc (zeros-next n (length rest) e h l, bits_mod n t f, replicate-append-replicate {A = ℕ} k 56 0, append_assoc (replicate k 0) (replicate 56 0) (bytes 8 (8 * n)), append_assoc rest (0x80 ∷ replicate k 0) z)
 
 length_sized : (b : List ℕ) (x : ℕ) → length b ≡ 64 → length (take 56 b ++ bytes 8 x) ≡ 64
 length_sized b x h = omega (arith, length-append (take 56 b) (bytes 8 x), length-take-le 56 b (omega arith), length-bytes 8 x)
