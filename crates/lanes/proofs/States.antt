@@ -1,18 +1,19 @@
 -- A list that is filled, and the front of a column; a text of 39 bytes is one block.
-use Rattle.std.proofs.Common.{◌≡◌, ℕ, suc, ◌+◌, ◌-◌, ◌*◌, ◌<◌, ◌≤◌, List, [], ◌∷◌, ◌++◌, map, length, get_or, set, take, replicate, sym, ap, ◌∙◌, arith}
+use Rattle.std.proofs.Common.{◌≡◌, ℕ, ◌+◌, ◌-◌, ◌*◌, ◌<◌, ◌≤◌, List, [], ◌∷◌, ◌++◌, length, get_or, set, take, replicate, sym, ap, ◌∙◌, arith}
 use Rattle.std.proofs.lemmas.List.Edits.{fill_by_more}
-use Rattle.std.proofs.lemmas.List.{get_or_append_left, get_or-append_right, get_or-replicate, length-append, take-append-le, take-map}
+use Rattle.std.proofs.lemmas.List.{get_or_append_left, get_or-append_right, length-append, length-set, take-append-le, take-map}
 use Rattle.sha256.specs.Lane.{column}
 use Rattle.sha256.specs.Sha256.{H0, bytes, zeros, padding, padded, word, compress, output, sha256}
+use Rattle.sha256.proofs.Lanes.{column_first}
 use Rattle.sha256.proofs.Messages.{one_block}
 use Rattle.lanes.specs.Lane.{lane}
 
 -- the front of a column is that of the values in front
-pub column-front : (xs ys : List (List ℕ)) (n j : ℕ) → n ≤ length xs → take n (column lane (xs ++ ys) j) ≡ take n (column lane xs j)
+pub column_front : (xs ys : List (List ℕ)) (n j : ℕ) → n ≤ length xs → take n (column lane (xs ++ ys) j) ≡ take n (column lane xs j)
 unfolding column
-column-front xs ys n j h =
-    let f : List ℕ → ℕ = λ x. lane x j in
-    take-map f n (xs ++ ys) ∙ (ap (map f) (take-append-le n xs ys h) ∙ sym (take-map f n xs))
+column_front xs ys n j h = grind (arith, take-map, take-append-le)
+
+pub ruleset load_laws = (column_first, length-set)
 
 -- a list whose places are filled one after the other
 pub put-more : {X : Type 0} (f : ℕ → X) (xs : List X) (i : ℕ) (y d : X)
@@ -27,58 +28,34 @@ padded-text : (text : List ℕ) → length text ≡ 39 → padded text ≡ text 
 unfolding padded padding zeros bytes
 padded-text text e = ap (λ (n : ℕ). text ++ padding n) e
 
-pub word_front : (text : List ℕ) (t : ℕ) → length text ≡ 39 → t < 9 → word text t ≡ word (padded text) t
+text_front : (text : List ℕ) (k : ℕ) → length text ≡ 39 → k < 39 → get_or (padded text) k 0 ≡ get_or text k 0
+text_front text k e h = rw (padded-text text e) (get_or_append_left text tail 0 k (omega arith))
+
+text_back : (text : List ℕ) (k : ℕ) → length text ≡ 39 → 39 ≤ k → get_or (padded text) k 0 ≡ get_or tail (k - 39) 0
+text_back text k e h = rw (padded-text text e) (get_or-append_right text tail 39 k 0 e h)
+
+tail_zero : (i : ℕ) → 0 < i → i < 23 → get_or tail i 0 ≡ 0
+tail_zero i h l = grind arith
+
+pub word_front : (text : List ℕ) (t : ℕ) → length text ≡ 39 → t < 9 → word (padded text) t ≡ word text t
 unfolding word
-word_front text t e h =
-    let p = padded-text text e in
-    let a = get_or_append_left text tail 0 (4 * t) (omega arith) in
-    let b = get_or_append_left text tail 0 (4 * t + 1) (omega arith) in
-    let c = get_or_append_left text tail 0 (4 * t + 2) (omega arith) in
-    let d = get_or_append_left text tail 0 (4 * t + 3) (omega arith) in
-    cc
+word_front text t e h = grind (arith, text_front)
 
 pub word_last : (text : List ℕ) → length text ≡ 39
     → get_or text 36 0 * 16777216 + get_or text 37 0 * 65536 + get_or text 38 0 * 256 + 0x80 ≡ word (padded text) 9
 unfolding word
-word_last text e =
-    let p = padded-text text e in
-    let a = get_or_append_left text tail 0 36 (omega arith) in
-    let b = get_or_append_left text tail 0 37 (omega arith) in
-    let c = get_or_append_left text tail 0 38 (omega arith) in
-    let d = get_or-append_right text tail 39 39 0 e (omega arith) in
-    cc
-
-tail_zero : (text : List ℕ) (k : ℕ) → length text ≡ 39 → 39 < k → k < 62 → get_or (text ++ tail) k 0 ≡ 0
-tail_zero text k e h l =
-    let i = k - 40 in
-    let s : k - 39 ≡ suc i = omega arith in
-    let a = get_or-append_right text tail 39 k 0 e (omega arith) in
-    let b = get_or_append_left {A = ℕ} (replicate 22 0) (1 ∷ 0x38 ∷ []) 0 i (omega arith) in
-    let d = get_or-replicate {A = ℕ} 22 i 0 0 (omega arith) in
-    a ∙ (ap (λ (n : ℕ). get_or tail n 0) s ∙ (b ∙ d))
+word_last text e = grind (arith, text_front, text_back)
 
 pub word_zero : (text : List ℕ) (t : ℕ) → length text ≡ 39 → 9 < t → t < 15 → 0 ≡ word (padded text) t
 unfolding word
-word_zero text t e h l =
-    let p = padded-text text e in
-    let a = tail_zero text (4 * t) e (omega arith) (omega arith) in
-    let b = tail_zero text (4 * t + 1) e (omega arith) (omega arith) in
-    let c = tail_zero text (4 * t + 2) e (omega arith) (omega arith) in
-    let d = tail_zero text (4 * t + 3) e (omega arith) (omega arith) in
-    rw (p, a, b, c, d)
+word_zero text t e h l = grind (arith, text_back, tail_zero)
 
 pub word_size : (text : List ℕ) → length text ≡ 39 → 312 ≡ word (padded text) 15
 unfolding word
-word_size text e =
-    let p = padded-text text e in
-    let a = get_or-append_right text tail 39 60 0 e (omega arith) in
-    let b = get_or-append_right text tail 39 61 0 e (omega arith) in
-    let c = get_or-append_right text tail 39 62 0 e (omega arith) in
-    let d = get_or-append_right text tail 39 63 0 e (omega arith) in
-    rw (p, a, b, c, d)
+word_size text e = grind (arith, text_back)
 
-pub sha256-text : (text : List ℕ) → length text ≡ 39 → output (compress H0 (padded text)) ≡ sha256 text
+pub sha256_text : (text : List ℕ) → length text ≡ 39 → sha256 text ≡ output (compress H0 (padded text))
 unfolding sha256
-sha256-text text e =
+sha256_text text e =
     let l : length (padded text) ≡ 64 = omega (arith, ap length (padded-text text e), length-append text tail) in
-    ap output (one_block H0 (padded text) l)
+    ap output (sym (one_block H0 (padded text) l))

@@ -8,6 +8,7 @@ use std::array;
 use std::simd::prelude::*;
 
 // Word t of a text, one of its nine whole words.
+#[tactic(auto, using(crate::proofs::States::word_front, sha256::proofs::Bytes::word_at))]
 fn word(text: &[u8; 39], t: usize) -> u32
     requires { t < 9 }
     ensures { result ≡ word_of (padded text.now) t }
@@ -17,6 +18,7 @@ fn word(text: &[u8; 39], t: usize) -> u32
 }
 
 // Word 9 of a text: its last three bytes and the byte 0x80 of the padding.
+#[tactic(auto, using(crate::proofs::States::word_last))]
 fn last_word(text: &[u8; 39]) -> u32
     ensures value { result ≡ word_of (padded text.now) 9 }
     ensures size { length text.now ≡ 39 }
@@ -39,6 +41,7 @@ fn last_words(texts: &[[u8; 39]; 8]) -> u32x8
 }
 
 // Word t of each text's block. After word 9 come zeros, and the number of bits.
+#[tactic(auto, using(crate::proofs::States::word_zero, crate::proofs::States::word_size))]
 fn words(texts: &[[u8; 39]; 8], last: u32x8, t: usize) -> u32x8
     requires { t < 16 }
     ensures { Sized texts.now → WordsAt texts.now 9 last → WordsAt texts.now t result }
@@ -52,6 +55,7 @@ fn words(texts: &[[u8; 39]; 8], last: u32x8, t: usize) -> u32x8
 }
 
 // Puts the sixteen words of each text's block before those that are computed of them.
+#[tactic(auto, using(crate::proofs::States::load_laws))]
 pub(crate) fn load(texts: &[[u8; 39]; 8], w: &mut [u32x8; 64])
     ensures sized { Sized texts.now }
     ensures words { (j : ℕ) → j < 8 → take 16 (column lane w.new j) ≡ schedule (padded (slice_index_or texts.now j [])) 0 }

@@ -38,6 +38,7 @@ fn outputs(s: State<u32x8>) -> [[u8; 32]; 8]
 }
 
 // The digests of the eight texts, each in the place of its text.
+#[tactic(auto, using(crate::proofs::States::sha256_text))]
 pub fn digests(texts: &[[u8; 39]; 8]) -> [[u8; 32]; 8]
     ensures { (j : ℕ) → j < 8 → slice_index_or result j [] ≡ sha256 (slice_index_or texts.now j []) }
 {

@@ -2,5 +2,6 @@
 pub mod Bytes
 pub mod Lanes
 pub mod Messages
+pub mod Names
 pub mod Rounds
 pub mod Streams

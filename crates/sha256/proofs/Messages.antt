@@ -1,107 +1,68 @@
 -- Blocks one after the other, and the digest of a message from what its whole blocks left.
-use Rattle.std.proofs.Common.{◌≡◌, ℕ, zero, suc, ◌+◌, ◌-◌, ◌*◌, ◌/◌, ◌%◌, ◌^◌, ◌<◌, ◌≤◌, List, [], ◌∷◌, ◌++◌, length, get_or, take, drop, replicate, sym, refl, ap, ◌∙◌, add-zero, add-one, arith}
-use lib.Seq.{drop-append-add}
+use Rattle.std.proofs.Common.{◌≡◌, ℕ, zero, suc, ◌+◌, ◌-◌, ◌*◌, ◌/◌, ◌%◌, ◌^◌, ◌<◌, ◌≤◌, List, ◌∷◌, ◌++◌, length, get_or, take, drop, replicate, refl, ap, add-zero, add-one, arith}
 use Rattle.std.specs.Simd.{first_chunks}
-use Rattle.std.proofs.lemmas.List.{append_assoc, append-nil, drop-take, take-take, take_at, take-append-drop, length-append, length-replicate, length-drop, length-take-le, replicate-append-replicate}
+use Rattle.std.proofs.lemmas.List.{append_assoc, drop_at, drop-append-le, drop-drop, drop-take, take-take, take_all, take_at, length-append, length-replicate, length-drop, length-take-le, replicate-append-replicate}
 use Rattle.sha256.specs.declared.state.State.{State}
 use Rattle.sha256.specs.Sha256.{H0, bytes, zeros, padding, padded, block, compress, hashed, output, sha256}
-use Rattle.sha256.proofs.Bytes.{length-bytes, bits_mod, chunk_drop}
+use Rattle.sha256.proofs.Bytes.{length-bytes, bits_mod, chunk_drop, mark_after}
 
-pub hashed-none : (s : State ℕ) (p : List ℕ) → s ≡ hashed s p 0
+pub hashed_none : (s : State ℕ) (p : List ℕ) → s ≡ hashed s p 0
 unfolding hashed
-hashed-none s p = refl
+hashed_none s p = refl
 
-pub hashed-more : (s r : State ℕ) (p b : List ℕ) (n : ℕ)
+pub hashed_more : (s r : State ℕ) (p b : List ℕ) (n : ℕ)
     → s ≡ hashed r p n → b ≡ block p n → compress s b ≡ hashed r p (n + 1)
 unfolding hashed
-hashed-more s r p b n e f = rw add-one (cc)
+hashed_more s r p b n e f = rw add-one (cc)
 
 -- block i as the code cuts it
-pub chunk-block : (p d : List ℕ) (n i : ℕ) → i < n → get_or (first_chunks 64 n p) i d ≡ block p i
+pub chunk_block : (p d : List ℕ) (n i : ℕ) → i < n → get_or (first_chunks 64 n p) i d ≡ block p i
 unfolding block
-chunk-block p d n i h = chunk_drop 64 p d n i h
+chunk_block p d n i h = chunk_drop 64 p d n i h
 
 -- the blocks of a message are those of a part from its front that is long enough
 block-take : (p : List ℕ) (n m : ℕ) → 64 * n + 64 ≤ m → block (take m p) n ≡ block p n
 unfolding block
-block-take p n m h =
-    let a = drop-take (64 * n) 64 (take m p) in
-    let b = drop-take (64 * n) 64 p in
-    let t = take-take (64 * n + 64) m p h in
-    cc
+block-take p n m h = cc (drop-take (64 * n) 64 (take m p), drop-take (64 * n) 64 p, take-take (64 * n + 64) m p h)
 
 hashed-take : (s : State ℕ) (p : List ℕ) (n m : ℕ) → 64 * n ≤ m → hashed s (take m p) n ≡ hashed s p n
 unfolding hashed
 hashed-take s p zero m h = refl
-hashed-take s p (suc n) m h =
-    let e = hashed-take s p n m (omega arith) in
-    let b = block-take p n m (omega arith) in
-    cc
+hashed-take s p (suc n) m h = cc (hashed-take s p n m (omega arith), block-take p n m (omega arith))
 
 pub hashed_front : (s : State ℕ) (p q : List ℕ) (n : ℕ) → 64 * n ≤ length p → hashed s (p ++ q) n ≡ hashed s p n
-hashed_front s p q n h =
-    let a = hashed-take s (p ++ q) n (length p) h in
-    let b = take_at p q (length p) refl in
-    cc
+hashed_front s p q n h = cc (hashed-take s (p ++ q) n (length p) h, take_at p q (length p) refl)
 
 -- blocks after blocks
-block-after : (p q : List ℕ) (k n : ℕ) → length p ≡ 64 * k → block (p ++ q) (k + n) ≡ block q n
-unfolding block
-block-after p q k n h =
-    let e : 64 * (k + n) ≡ length p + 64 * n = omega arith in
-    let d = drop-append-add p q (64 * n) in
-    cc
-
-pub hashed-after : (s : State ℕ) (p q : List ℕ) (k n : ℕ)
-    → length p ≡ 64 * k → hashed s (p ++ q) (k + n) ≡ hashed (hashed s p k) q n
-hashed-after s p q k zero h =
-    let f = hashed_front s p q k (omega arith) in
-    let z = hashed-none (hashed s p k) q in
-    let e = add-zero k in
-    cc
-hashed-after s p q k (suc n) h =
-    let e = hashed-after s p q k n h in
-    let b = block-after p q k n h in
-    let l = hashed-more _ s (p ++ q) _ (k + n) refl refl in
-    let r = hashed-more _ (hashed s p k) q _ n refl refl in
-    let u : k + suc n ≡ k + n + 1 = omega arith in
-    let v : suc n ≡ n + 1 = omega arith in
-    cc
+pub hashed_drop : (s : State ℕ) (p : List ℕ) (k n : ℕ) → hashed s p (k + n) ≡ hashed (hashed s p k) (drop (64 * k) p) n
+unfolding block hashed
+hashed_drop s p k zero = cc (add-zero k)
+hashed_drop s p k (suc n) =
+    let u : k + suc n ≡ suc (k + n) = omega arith in
+    let v : 64 * k + 64 * n ≡ 64 * (k + n) = omega arith in
+    cc (hashed_drop s p k n, drop-drop (64 * n) (64 * k) p)
 
 -- one block, and two
-block-whole : (p q : List ℕ) → length p ≡ 64 → block (p ++ q) 0 ≡ p
-unfolding block
-block-whole p q h = take_at p q 64 h
-
 pub one_block : (s : State ℕ) (p : List ℕ) → length p ≡ 64 → compress s p ≡ hashed s p (length p / 64)
+unfolding block hashed
 one_block s p h =
-    let b = block-whole p [] h in
-    let a = append-nil p in
-    let e : length p / 64 ≡ 0 + 1 = omega arith in
-    let m = hashed-more s s p p 0 (hashed-none s p) (cc) in
-    cc
+    let e : length p / 64 ≡ 1 = omega arith in
+    rw (e, take_all 64 p (omega arith))
 
-pub two_blocks : (s : State ℕ) (p q : List ℕ)
+two_blocks : (s : State ℕ) (p q : List ℕ)
     → length p ≡ 64 → length q ≡ 64 → compress (compress s p) q ≡ hashed s (p ++ q) (length (p ++ q) / 64)
 two_blocks s p q h l =
-    let a = length-append p q in
-    let e : length (p ++ q) / 64 ≡ 1 + 1 = omega arith in
+    let e : length (p ++ q) / 64 ≡ 1 + 1 = omega (arith, length-append p q) in
     let x : length p / 64 ≡ 1 = omega arith in
     let y : length q / 64 ≡ 1 = omega arith in
-    let u = hashed-after s p q 1 1 h in
-    let v = one_block s p h in
-    let w = one_block (compress s p) q l in
-    cc
+    cc (hashed_drop s (p ++ q) 1 1, hashed_front s p q 1 (omega arith), drop_at p q 64 h, one_block s p h, one_block (compress s p) q l)
 
 -- what the padding adds to what is left of a message of n bytes: up to the end of this block, or of the next
 abbrev pub mark : List ℕ → List ℕ
 mark rest = rest ++ 0x80 ∷ replicate (63 - length rest) 0
 
 length_mark : (rest : List ℕ) (k : ℕ) → length (rest ++ 0x80 ∷ replicate k 0) ≡ length rest + (k + 1)
-length_mark rest k =
-    let a = length-append rest (0x80 ∷ replicate k 0) in
-    let b = length-replicate {A = ℕ} k 0 in
-    omega (arith, a, b)
+length_mark rest k = simp (length-append, length-replicate) (omega arith)
 
 -- as the standard has it: the least number of zeros that ends 8 bytes before the end of a block
 pub zeros_fill : (n : ℕ) → ((n + 1 + zeros n) % 64 ≡ 56) × (zeros n < 64)
@@ -116,99 +77,54 @@ zeros-next : (n r : ℕ) → n % 64 ≡ r → 56 ≤ r → r < 64 → zeros n �
 unfolding zeros
 zeros-next n r e h l = omega arith
 
-pub padding_here : (rest : List ℕ) (n t : ℕ)
+padding_here : (rest : List ℕ) (n t : ℕ)
     → n % 64 ≡ length rest → n % 2 ^ 64 ≡ t → length rest < 56
     → rest ++ padding n ≡ take 56 (mark rest) ++ bytes 8 (8 * t)
 unfolding padding
 padding_here rest n t e f h =
     let k = 55 - length rest in
-    let z = zeros_here n (length rest) e h in
-    let b = bits_mod n t f in
     let u : 63 - length rest ≡ k + 8 = omega arith in
-    let r = replicate-append-replicate {A = ℕ} k 8 0 in
     let p = rest ++ 0x80 ∷ replicate k 0 in
     let l : length p ≡ 56 = omega (arith, length_mark rest k) in
-    let q = append_assoc rest (0x80 ∷ replicate k 0) (replicate 8 0) in
-    let m : mark rest ≡ p ++ replicate 8 0 = cc in
-    let g = take_at p (replicate 8 0) 56 l in
-    let a = append_assoc rest (0x80 ∷ replicate k 0) (bytes 8 (8 * n)) in
-    cc
+    let m : mark rest ≡ p ++ replicate 8 0 = cc (replicate-append-replicate {A = ℕ} k 8 0, append_assoc rest (0x80 ∷ replicate k 0) (replicate 8 0)) in
+    cc (zeros_here n (length rest) e h, bits_mod n t f, take_at p (replicate 8 0) 56 l, append_assoc rest (0x80 ∷ replicate k 0) (bytes 8 (8 * n)))
 
-pub padding-next : (rest : List ℕ) (n t : ℕ)
+padding-next : (rest : List ℕ) (n t : ℕ)
     → n % 64 ≡ length rest → n % 2 ^ 64 ≡ t → 56 ≤ length rest → length rest < 64
     → rest ++ padding n ≡ mark rest ++ (take 56 (replicate 64 0) ++ bytes 8 (8 * t))
 unfolding padding
 padding-next rest n t e f h l =
     let k = 63 - length rest in
-    let z = zeros-next n (length rest) e h l in
-    let b = bits_mod n t f in
-    let r = replicate-append-replicate {A = ℕ} k 56 0 in
-    let x = append_assoc (replicate k 0) (replicate 56 0) (bytes 8 (8 * n)) in
-    let a = append_assoc rest (0x80 ∷ replicate k 0) (replicate 56 0 ++ bytes 8 (8 * n)) in
-    let w : replicate (zeros n) 0 ++ bytes 8 (8 * n) ≡ replicate k 0 ++ (replicate 56 0 ++ bytes 8 (8 * n)) = cc in
-    let y : rest ++ padding n ≡ rest ++ (0x80 ∷ (replicate k 0 ++ (replicate 56 0 ++ bytes 8 (8 * n)))) = ap (λ (v : List ℕ). rest ++ 0x80 ∷ v) w in
-    y ∙ (sym a ∙ ap (λ (v : List ℕ). mark rest ++ (replicate 56 0 ++ v)) (sym b))
+    let z = replicate 56 0 ++ bytes 8 (8 * n) in
+    cc (zeros-next n (length rest) e h l, bits_mod n t f, replicate-append-replicate {A = ℕ} k 56 0, append_assoc (replicate k 0) (replicate 56 0) (bytes 8 (8 * n)), append_assoc rest (0x80 ∷ replicate k 0) z)
 
 length_sized : (b : List ℕ) (x : ℕ) → length b ≡ 64 → length (take 56 b ++ bytes 8 x) ≡ 64
-length_sized b x h =
-    let a = length-append (take 56 b) (bytes 8 x) in
-    let t = length-take-le 56 b (omega arith) in
-    let l = length-bytes 8 x in
-    omega (arith, a, t, l)
+length_sized b x h = omega (arith, length-append (take 56 b) (bytes 8 x), length-take-le 56 b (omega arith), length-bytes 8 x)
 
-pub last_here : (s : State ℕ) (rest b z : List ℕ) (n t : ℕ)
-    → n % 64 ≡ length rest → n % 2 ^ 64 ≡ t → length rest < 56 → b ≡ mark rest → z ≡ take 56 b ++ bytes 8 (8 * t)
-    → compress s z ≡ hashed s (rest ++ padding n) (length (rest ++ padding n) / 64)
-last_here s rest b z n t e f h eb ez =
+pub last_here : (s : State ℕ) (rest : List ℕ) (n t : ℕ) → n % 64 ≡ length rest → n % 2 ^ 64 ≡ t → length rest < 56
+    → compress s (take 56 (mark rest) ++ bytes 8 (8 * t)) ≡ hashed s (rest ++ padding n) (length (rest ++ padding n) / 64)
+last_here s rest n t e f h =
     let m : length (mark rest) ≡ 64 = omega (arith, length_mark rest (63 - length rest)) in
-    let l = length_sized (mark rest) (8 * t) m in
-    let p = padding_here rest n t e f h in
-    let k : z ≡ rest ++ padding n = cc in
-    let lz : length z ≡ 64 = cc in
-    let o = one_block s z lz in
-    cc
+    rw (padding_here rest n t e f h) (one_block s _ (length_sized (mark rest) (8 * t) m))
 
-pub last_next : (s : State ℕ) (rest b z : List ℕ) (n t : ℕ)
-    → n % 64 ≡ length rest → n % 2 ^ 64 ≡ t → 56 ≤ length rest → length rest < 64 → b ≡ mark rest
-    → z ≡ take 56 (replicate 64 0) ++ bytes 8 (8 * t)
-    → compress (compress s b) z ≡ hashed s (rest ++ padding n) (length (rest ++ padding n) / 64)
-last_next s rest b z n t e f h g eb ez =
+pub last_next : (s : State ℕ) (rest : List ℕ) (n t : ℕ) → n % 64 ≡ length rest → n % 2 ^ 64 ≡ t → 56 ≤ length rest → length rest < 64
+    → compress (compress s (mark rest)) (take 56 (replicate 64 0) ++ bytes 8 (8 * t)) ≡ hashed s (rest ++ padding n) (length (rest ++ padding n) / 64)
+last_next s rest n t e f h g =
     let m : length (mark rest) ≡ 64 = omega (arith, length_mark rest (63 - length rest)) in
-    let l = length_sized (replicate 64 0) (8 * t) refl in
-    let p = padding-next rest n t e f h g in
-    let k : b ++ z ≡ rest ++ padding n = cc in
-    let lb : length b ≡ 64 = cc in
-    let lz : length z ≡ 64 = cc in
-    let o = two_blocks s b z lb lz in
-    cc
+    rw (padding-next rest n t e f h g) (two_blocks s (mark rest) _ m (length_sized (replicate 64 0) (8 * t) refl))
+
+pub ruleset last_laws = (mark_after, last_here, last_next)
 
 -- the digest, from the whole blocks and the rest
-pub sha256-rest : (m rest : List ℕ) (q : ℕ)
-    → q ≡ length m / 64 → rest ≡ drop (64 * q) m
-    → output (hashed (hashed H0 m q) (rest ++ padding (length m)) (length (rest ++ padding (length m)) / 64)) ≡ sha256 m
+pub sha256_left : (m : List ℕ)
+    → let q = length m / 64 in let rest = drop (64 * q) m in
+    sha256 m ≡ output (hashed (hashed H0 m q) (rest ++ padding (length m)) (length (rest ++ padding (length m)) / 64))
 unfolding sha256 padded
-sha256-rest m rest q eq er =
+sha256_left m =
     let n = length m in
-    let p = take (64 * q) m in
-    let lp : length p ≡ 64 * q = length-take-le (64 * q) m (omega arith) in
-    let t = take-append-drop (64 * q) m in
-    let a = append_assoc p rest (padding n) in
-    let k : m ++ padding n ≡ p ++ (rest ++ padding n) = cc in
-    let l : length (m ++ padding n) ≡ length p + length (rest ++ padding n) = ap length k ∙ length-append p (rest ++ padding n) in
-    let d : length (m ++ padding n) / 64 ≡ q + length (rest ++ padding n) / 64 = omega arith in
-    let h = hashed-after H0 p (rest ++ padding n) q (length (rest ++ padding n) / 64) lp in
-    let f = hashed-take H0 m q (64 * q) (omega arith) in
-    ap output (cc)
-
-pub length_rest : (m rest : List ℕ) → rest ≡ drop (64 * (length m / 64)) m → length m % 64 ≡ length rest
-length_rest m rest e =
-    let l = ap length e in
-    let d = length-drop (64 * (length m / 64)) m in
-    omega (arith, l, d)
-
-pub sha256-left : (m rest : List ℕ) (s : State ℕ)
-    → s ≡ hashed H0 m (length m / 64) → rest ≡ drop (64 * (length m / 64)) m
-    → output (hashed s (rest ++ padding (length m)) (length (rest ++ padding (length m)) / 64)) ≡ sha256 m
-sha256-left m rest s es er =
-    ap (λ (t : State ℕ). output (hashed t (rest ++ padding (length m)) (length (rest ++ padding (length m)) / 64))) es
-    ∙ sha256-rest m rest (length m / 64) refl er
+    let q = n / 64 in
+    let rest = drop (64 * q) m ++ padding n in
+    let d : length (m ++ padding n) / 64 ≡ q + length rest / 64 = omega (arith, length-append m (padding n), length-append (drop (64 * q) m) (padding n), length-drop (64 * q) m) in
+    let a = drop-append-le (64 * q) m (padding n) (omega arith) in
+    let f = hashed_front H0 m (padding n) q (omega arith) in
+    ap output (cc (hashed_drop H0 (m ++ padding n) q (length rest / 64)))

@@ -1,87 +1,55 @@
 -- One more word of the schedule and one more round, where they begin and where they end.
-use Rattle.std.proofs.Common.{◌≡◌, ℕ, zero, suc, ◌+◌, ◌<◌, ◌≤◌, List, [], ◌∷◌, ◌++◌, map, length, get_or, take, drop, set, refl, subst, add-one, arith}
+use Rattle.std.proofs.Common.{◌≡◌, ℕ, zero, suc, ◌+◌, ◌<◌, ◌≤◌, List, [], ◌∷◌, ◌++◌, map, length, get_or, take, drop, set, refl, ap, add-one, arith}
 use Rattle.std.specs.List.{range_with_len}
 use Rattle.std.proofs.lemmas.List.FromFn.{map-range_with_len_more}
-use Rattle.std.proofs.lemmas.List.{get_or_append_left, get_or-take, length_push, take-append-drop, take_more_set}
+use Rattle.std.proofs.lemmas.List.{get_or_append_left, get_or-take, length-set, length_push, take-append-drop, take_more_set}
+use Rattle.sha256.proofs.Bytes.{word_at}
 use Rattle.sha256.specs.declared.state.State.{State}
 use Rattle.sha256.specs.Sha256.{K, word, step, steps, next, schedule, sum, compress}
 
 -- one more word of a block, and all sixteen, with which the schedule begins
-pub more-first : (b w : List ℕ) (t x : ℕ)
+pub more_first : (b w : List ℕ) (t x : ℕ)
     → t < length w → x ≡ word b t → take t w ≡ map (word b) (range_with_len 0 t)
     → take (t + 1) (set w t x) ≡ map (word b) (range_with_len 0 (t + 1))
-more-first b w t x h ex e =
-    let p = take_more_set w t x h in
-    let f = map-range_with_len_more (word b) 0 t t (omega arith) in
-    cc
+more_first b w t x h ex e = cc (take_more_set w t x h, map-range_with_len_more (word b) 0 t t (omega arith))
 
-pub first-words : (b w : List ℕ) (t : ℕ) → t ≡ 16 → take t w ≡ map (word b) (range_with_len 0 t) → take 16 w ≡ schedule b 0
+pub first_words : (b : List ℕ) (t : ℕ) → t ≡ 16 → map (word b) (range_with_len 0 t) ≡ schedule b 0
 unfolding schedule
-first-words b w t e h = subst (λ (n : ℕ). take n w ≡ map (word b) (range_with_len 0 n)) e h
+first_words b t e = ap (λ (n : ℕ). map (word b) (range_with_len 0 n)) e
+
+pub ruleset block_laws = (more_first, first_words, word_at, length-set)
 
 -- a next word reads only the words before it
 pub next-take : (w : List ℕ) (n : ℕ) → next (take (n + 16) w) n ≡ next w n
 unfolding next
-next-take w n =
-    cc (
-      get_or-take (n + 16) w (n + 14) 0 (omega arith),
-      get_or-take (n + 16) w (n + 9) 0 (omega arith),
-      get_or-take (n + 16) w (n + 1) 0 (omega arith),
-      get_or-take (n + 16) w n 0 (omega arith),
-    )
+next-take w n = grind (arith, get_or-take)
 
-schedule-more : (b : List ℕ) (n : ℕ) → schedule b (n + 1) ≡ schedule b n ++ next (schedule b n) n ∷ []
+pub schedule-more : (b : List ℕ) (n : ℕ) → schedule b (n + 1) ≡ schedule b n ++ next (schedule b n) n ∷ []
 unfolding schedule
 schedule-more b n = rw add-one
-
-pub more-words : (b w : List ℕ) (n m x : ℕ)
-    → m ≡ n + 16 + 1 → n + 16 < length w → take (n + 16) w ≡ schedule b n → x ≡ next w n
-    → take m (set w (n + 16) x) ≡ schedule b (n + 1)
-more-words b w n m x em h e ex =
-    let t = take_more_set w (n + 16) x h in
-    let s = schedule-more b n in
-    let k = next-take w n in
-    cc
-
-pub words-at : (w b : List ℕ) (n m : ℕ) → n ≡ m → take (n + 16) w ≡ schedule b n → take (m + 16) w ≡ schedule b m
-words-at w b n m e h = subst (λ (k : ℕ). take (k + 16) w ≡ schedule b k) e h
 
 pub no_steps : (s : State ℕ) (w : List ℕ) → s ≡ steps s w 0
 unfolding steps
 no_steps s w = refl
 
-steps-more : (s : State ℕ) (w : List ℕ) (t : ℕ) → steps s w (t + 1) ≡ step (steps s w t) (get_or K t 0) (get_or w t 0)
+pub steps-more : (s : State ℕ) (w : List ℕ) (t : ℕ) → steps s w (t + 1) ≡ step (steps s w t) (get_or K t 0) (get_or w t 0)
 unfolding steps
 steps-more s w t = rw add-one
 
--- a state s after t rounds is a state r after one more
-pub one_more : (start s r : State ℕ) (w : List ℕ) (t k x u : ℕ)
-    → s ≡ steps start w t → r ≡ step s k x → k ≡ get_or K t 0 → x ≡ get_or w t 0 → u ≡ t + 1 → r ≡ steps start w u
-one_more start s r w t k x u es er ek ex eu = let m = steps-more start w t in cc
-
 -- rounds read only the words before them
-pub steps_front : (s : State ℕ) (w v : List ℕ) (t : ℕ) → t ≤ length w → steps s (w ++ v) t ≡ steps s w t
+steps_front : (s : State ℕ) (w v : List ℕ) (t : ℕ) → t ≤ length w → steps s (w ++ v) t ≡ steps s w t
 unfolding steps
 steps_front s w v zero h = refl
-steps_front s w v (suc t) h =
-    let e = steps_front s w v t (omega arith) in
-    let g = get_or_append_left w v 0 t h in
-    cc
+steps_front s w v (suc t) h = cc (steps_front s w v t (omega arith), get_or_append_left w v 0 t h)
 
 length-schedule : (b : List ℕ) (n : ℕ) → length (schedule b n) ≡ n + 16
 unfolding schedule
 length-schedule b zero = refl
-length-schedule b (suc n) =
-    let a = length_push (schedule b n) (next (schedule b n) n) in
-    let e = length-schedule b n in
-    omega (arith, a, e)
+length-schedule b (suc n) = omega (arith, length_push (schedule b n) (next (schedule b n) n), length-schedule b n)
 
 -- all rounds, on all words
-pub all_steps : (s r : State ℕ) (b w : List ℕ) (t : ℕ)
-    → t ≡ 64 → take 64 w ≡ schedule b 48 → r ≡ steps s w t → sum s r ≡ compress s b
+pub all_steps : (s : State ℕ) (b w : List ℕ) (t : ℕ) → t ≡ 64 → take 64 w ≡ schedule b 48 → sum s (steps s w t) ≡ compress s b
 unfolding compress
-all_steps s r b w t e h er =
-    let a = take-append-drop 64 w in
+all_steps s b w t e h =
     let l = length-schedule b 48 in
-    let f = steps_front s (schedule b 48) (drop 64 w) 64 (omega arith) in
-    cc
+    cc (take-append-drop 64 w, steps_front s (schedule b 48) (drop 64 w) 64 (omega arith))

@@ -17,6 +17,7 @@ pub(crate) fn filled(start: [u8; 64], held: usize, part: &[u8]) -> [u8; 64]
 }
 
 // The block's sixteen words, before those that are computed of them.
+#[tactic(auto, using(crate::proofs::Rounds::block_laws))]
 fn words(block: &[u8; 64]) -> [u32; 64]
     ensures { take 16 result ≡ scheduled block.now 0 }
 {

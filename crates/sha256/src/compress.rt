@@ -1,5 +1,5 @@
 // One block of each message: the message schedule, the sixty-four rounds and the sum.
-ghost use Rattle.std.specs.Prelude.{◌≡◌, ℕ, ◌+◌, ◌*◌, ◌<◌, ◌≤◌, List, length, take};
+ghost use Rattle.std.specs.Prelude.{◌≡◌, ℕ, ◌+◌, ◌<◌, ◌≤◌, List, take};
 ghost use Rattle.sha256.specs.declared.state.State.{State};
 ghost use Rattle.sha256.specs.Lane.{column, state_at};
 ghost use Rattle.sha256.specs.Sha256.{H0, next as next_of, schedule as scheduled, step as stepped, steps, sum as sum_of, compress as compressed};
@@ -36,6 +36,7 @@ fn next<W: Words>(w: &[W; 64], n: usize) -> W
 }
 
 // The next word of the schedule, at its place.
+#[tactic(auto, using(crate::proofs::Lanes::column_words))]
 fn put_next<W: Words>(w: &mut [W; 64], n: usize)
     requires { n < 48 }
     ensures { (j : ℕ) (b : List ℕ) → j < W.lanes → take (n + 16) (column W.lane w.old j) ≡ scheduled b n → take (n + 1 + 16) (column W.lane w.new j) ≡ scheduled b (n + 1) }
@@ -88,6 +89,7 @@ fn step<W: Words>(s: State<W>, k: u32, w: W) -> State<W>
 }
 
 // Eight rounds from round t on, so that the compiler renames the words and moves none.
+#[tactic(auto, using(crate::proofs::Lanes::lane_more))]
 fn eight_steps<W: Words>(s: State<W>, w: &[W; 64], t: usize) -> State<W>
     requires { t + 8 ≤ 64 }
     ensures { (j : ℕ) → j < W.lanes → (start : State ℕ) → state_at W.lane s j ≡ steps start (column W.lane w.now j) t → state_at W.lane result j ≡ steps start (column W.lane w.now j) (t + 8) }
@@ -119,6 +121,7 @@ fn sum<W: Words>(s: State<W>, r: State<W>) -> State<W>
 }
 
 // The hash values after a block of each message, whose sixteen words are the first of w. The others are filled.
+#[tactic(auto, using(crate::proofs::Rounds::no_steps, crate::proofs::Rounds::all_steps))]
 pub fn compress_words<W: Words>(s: State<W>, w: &mut [W; 64]) -> State<W>
     ensures { (j : ℕ) → j < W.lanes → (b : List ℕ) → take 16 (column W.lane w.old j) ≡ scheduled b 0 → state_at W.lane result j ≡ compressed (state_at W.lane s j) b }
 {

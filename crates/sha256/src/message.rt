@@ -1,7 +1,7 @@
 // A whole message: its blocks, the last block or two with the padding, and the bytes of the digest.
-ghost use Rattle.std.specs.Prelude.{◌≡◌, ℕ, ◌+◌, ◌-◌, ◌*◌, ◌/◌, ◌%◌, ◌^◌, ◌<◌, ◌≤◌, List, [], ◌∷◌, ◌++◌, length, take, drop, replicate};
+ghost use Rattle.std.specs.Prelude.{◌≡◌, ℕ, ◌*◌, ◌/◌, ◌%◌, ◌^◌, ◌<◌, List, ◌++◌, length, take, drop};
 ghost use Rattle.std.specs.List.{flat_map};
-ghost use Rattle.sha256.specs.Sha256.{H0, bytes as bytes_of, padding, hashed, output as outputOf, sha256};
+ghost use Rattle.sha256.specs.Sha256.{bytes as bytes_of, padding, hashed, output as outputOf, sha256};
 ghost use Rattle.sha256.specs.Stream.{Left};
 
 use crate::block::{compress, filled};
@@ -9,6 +9,7 @@ use crate::compress::initial;
 use crate::state::State;
 
 // The hash value after the whole blocks of `part`, and what comes after them.
+#[tactic(auto, using(crate::proofs::Messages::hashed_none, crate::proofs::Messages::hashed_more, crate::proofs::Messages::chunk_block))]
 pub(crate) fn blocks(start: State<u32>, part: &[u8]) -> (State<u32>, &[u8])
     ensures state { result.0 ≡ hashed start part.now (length part.now / 64) }
     ensures rest { result.1.now ≡ drop (64 * (length part.now / 64)) part.now }
@@ -23,6 +24,7 @@ pub(crate) fn blocks(start: State<u32>, part: &[u8]) -> (State<u32>, &[u8])
 }
 
 // The block with the number of bits in its last eight bytes.
+#[tactic(auto, using(crate::proofs::Bytes::sized_laws))]
 fn sized(start: [u8; 64], total: u64) -> [u8; 64]
     ensures { result ≡ take 56 start ++ bytes_of 8 (8 * total) }
 {
@@ -30,6 +32,7 @@ fn sized(start: [u8; 64], total: u64) -> [u8; 64]
 }
 
 // The hash value after what is left of a message, `rest`, with the padding of the whole.
+#[tactic(auto, using(crate::proofs::Messages::last_laws))]
 fn last(s: State<u32>, rest: &[u8], total: u64) -> State<u32>
     requires { length rest.now < 64 }
     ensures { (n : ℕ) → n % 64 ≡ length rest.now → n % 2 ^ 64 ≡ total → result ≡ hashed s (rest.now ++ padding n) (length (rest.now ++ padding n) / 64) }
@@ -44,6 +47,7 @@ fn last(s: State<u32>, rest: &[u8], total: u64) -> State<u32>
     }
 }
 
+#[tactic(auto, using(crate::proofs::Bytes::words_laws))]
 fn bytes(words: [u32; 8]) -> [u8; 32]
     ensures { result ≡ flat_map (bytes_of 4) words }
 {
@@ -70,6 +74,7 @@ pub(crate) fn finished(s: State<u32>, rest: &[u8], total: u64) -> [u8; 32]
 }
 
 // The digest of the message.
+#[tactic(auto, unfolding(crate::specs::Lane::state_at))]
 pub fn digest(message: &[u8]) -> [u8; 32]
     ensures { result ≡ sha256 message.now }
 {

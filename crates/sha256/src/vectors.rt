@@ -32,10 +32,12 @@ impl Words for u32x8 {
         !self
     }
 
+    #[tactic(auto, using(crate::proofs::Lanes::lane_laws))]
     fn shr(self, n: u32) -> u32x8 {
         self >> u32x8::splat(n)
     }
 
+    #[tactic(auto, using(crate::proofs::Lanes::lane_laws))]
     fn rotr(self, n: u32) -> u32x8 {
         (self >> u32x8::splat(n)) | (self << u32x8::splat(32 - n))
     }

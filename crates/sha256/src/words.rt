@@ -100,24 +100,28 @@ pub(crate) fn maj<W: Words>(x: W, y: W, z: W) -> W
 }
 
 // Four functions and not one of the three turns, since the standard names four.
+#[tactic(auto, unfolding(crate::proofs::Names::big_sigma0))]
 pub(crate) fn big_sigma0<W: Words>(x: W) -> W
     ensures { (j : ℕ) → j < W.lanes → W.lane result j ≡ Σ0 (W.lane x j) }
 {
     x.rotr(2).xor(x.rotr(13)).xor(x.rotr(22))
 }
 
+#[tactic(auto, unfolding(crate::proofs::Names::big_sigma1))]
 pub(crate) fn big_sigma1<W: Words>(x: W) -> W
     ensures { (j : ℕ) → j < W.lanes → W.lane result j ≡ Σ1 (W.lane x j) }
 {
     x.rotr(6).xor(x.rotr(11)).xor(x.rotr(25))
 }
 
+#[tactic(auto, unfolding(crate::proofs::Names::small_sigma0))]
 pub(crate) fn small_sigma0<W: Words>(x: W) -> W
     ensures { (j : ℕ) → j < W.lanes → W.lane result j ≡ σ0 (W.lane x j) }
 {
     x.rotr(7).xor(x.rotr(18)).xor(x.shr(3))
 }
 
+#[tactic(auto, unfolding(crate::proofs::Names::small_sigma1))]
 pub(crate) fn small_sigma1<W: Words>(x: W) -> W
     ensures { (j : ℕ) → j < W.lanes → W.lane result j ≡ σ1 (W.lane x j) }
 {

@@ -1,26 +1,11 @@
--- One more vector, and all sixteen.
-use Rattle.std.proofs.Common.{[], get_or, ◌∙◌, arith}
-use Rattle.std.proofs.lemmas.List.{length-set}
-use Rattle.sha256.specs.Sha256.{padded}
-use Rattle.sha256.proofs.Lanes.{column-first}
-use Rattle.sha256.proofs.Rounds.{first-words}
-use Rattle.lanes.specs.Lane.{lane}
-use Rattle.lanes.proofs.States.{column-front}
+-- After the loop, t is 16.
+use Rattle.std.proofs.Common.{◌≡◌, arith}
+use Rattle.sha256.specs.Sha256.{schedule}
+use Rattle.lanes.proofs.States.{column_front}
 use Rattle.lanes.proofs.blocks.load.Goals as goal
 
-pub loop-t-preserved : goal.loop-t-preserved
-loop-t-preserved c =
-    let w = c.loop-t.x-items in
-    let t = c.loop-t.t in
-    let x = c.words.result in
-    let last = c.last_words-last.ensures in (
-      λ j l.
-          column-first lane (padded (get_or c.args.texts.now j [])) w x t j (omega arith) (c.words.ensures last.sized last.words j l)
-          (c.loop-t.invariant.0 j l),
-      length-set w t x ∙ c.loop-t.invariant.1,
-    )
-
 pub returns-clause-words : goal.returns-clause-words
+unfolding schedule
 returns-clause-words c = λ j l.
-    let front = column-front c.loop-t.x-items _ c.loop-t.t j (omega arith) in
-    first-words (padded (get_or c.args.texts.now j [])) _ c.loop-t.t (omega arith) (front ∙ c.loop-t.invariant.0 j l)
+    let e : c.loop-t.t ≡ 16 = omega arith in
+    rw (column_front c.loop-t.x-items _ 16 j (omega arith)) (rw e at (c.loop-t.invariant.0 j l))
