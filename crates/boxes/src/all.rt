@@ -32,6 +32,7 @@ fn fits(trains: usize, chances: usize, room: usize) -> bool
 
 // Writes the boxes of the trains 0, 1, .. to the front of `out`, one for each number; the chances stand one after the other. Where it answers false, which
 // is where the lengths don't fit or there are more than 65536 numbers, `out` stays as it is. A bool, since there is nothing to hand on, and C takes it as it is.
+// The four are passed one by one, and chances and boxes as flat bytes, since C calls this.
 #[tactic(auto, using(crate::proofs::Boxes::laid_sha256))]
 pub fn close_all(round: u32, numbers: &[u8], chances: &[u8], out: &mut [u8]) -> bool
     ensures answer { result ≡ closable (length numbers.now) (length chances.now) (length out.old) }

@@ -6,7 +6,8 @@ ghost use Rattle.boxes.specs.Binding.{TextInjective, TextLong};
 
 use sha256::digest;
 
-// Round, train, number and chance one by one, as `close` has them: a form of the project.
+// Round, train, number and chance one by one: the rule is that a public function of the design, as `close`, takes them by value. (`close_all`, which C calls,
+// takes flat slices.)
 fn head(round: u32, train: u16, number: u8) -> [u8; 7]
     ensures { result ≡ box_text round train number [] }
 {

@@ -24,6 +24,8 @@ impl Group<'_> {
     {
         let (chances, _) = self.chances.as_chunks();
         let mut all = [[0; 39]; 8];
+        // by place: with `array::from_fn` it was tried, and by the benchmark 4 % fewer boxes are closed in a second, on x86-64-v3 5 to 11 %; and of what was
+        // written through a `zip` of `iter_mut` the library says nothing
         for (j, number) in self.numbers.iter().enumerate() {
             all[j] = text(self.round, (self.first + j) as u16, *number, &chances[j]);
         }

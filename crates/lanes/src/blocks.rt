@@ -17,7 +17,7 @@ fn word(text: &[u8; 39], t: usize) -> u32
     u32::from_be_bytes(quads[t])
 }
 
-// Word 9 of a text: its last three bytes and the byte 0x80 of the padding.
+// Word 9 of a text: its last three bytes and the byte 0x80 of the padding. One function for this and the whole words would ask at each text which it is.
 #[tactic(auto, using(crate::proofs::States::word_last))]
 fn last_word(text: &[u8; 39]) -> u32
     ensures value { result ≡ word_of (padded text.now) 9 }

@@ -30,6 +30,7 @@ fn alone(s: State<u32x8>, j: usize) -> State<u32>
 fn outputs(s: State<u32x8>) -> [[u8; 32]; 8]
     ensures { (j : ℕ) → j < 8 → slice_index_or result j [] ≡ outputOf (state_at lane s j) }
 {
+    // a loop: with `array::from_fn` it was tried, and the closure needs a `requires` and an `ensures` of its own, which would be longer
     let mut all = [[0; 32]; 8];
     for (j, digest) in all.iter_mut().enumerate() {
         *digest = output(alone(s, j));

@@ -8,7 +8,7 @@ ghost use Rattle.paths.specs.Order.{is_order, none_twice, order_of};
 use super::order::Order;
 
 impl Order {
-    // The order that these bytes are, if they are one.
+    // The order that these bytes are, if they are one. No `TryFrom`, since where they are none there is no more to tell.
     pub fn new(bytes: &[u8]) -> Option<Order>
         ensures { option_map order_of result ≡ then_some (is_order bytes.now) bytes.now }
     {
@@ -46,6 +46,7 @@ fn is_row(bytes: &[u8]) -> bool
     ensures { result ≡ none_twice (length bytes.now) bytes.now }
 {
     let mut met = [false; 64];
+    // from the last, since the definition says of each byte that it is not among those after it
     for byte in bytes.iter().rev() {
         let number = *byte as usize;
         if number >= bytes.len() || met[number] {

@@ -1,13 +1,12 @@
 // The Boxes word that a plan and a lot give.
-ghost use Rattle.std.specs.Prelude.{◌≡◌, ◌+◌, ◌*◌, ◌≤◌, ◌++◌, length, take, drop};
+ghost use Rattle.std.specs.Prelude.{◌≡◌, length, take};
 ghost use Rattle.sha256.specs.Sha256.{sha256};
 ghost use Rattle.paths.specs.Order.{order_of};
 ghost use Rattle.paths.specs.Plan.{at};
 ghost use Rattle.tasks.specs.Model.{plan_of};
 ghost use Rattle.lots.specs.Views.{lot_of};
 ghost use Rattle.words.specs.Model.{wrote_to};
-ghost use Rattle.words.specs.Writing.{said_bytes};
-ghost use Rattle.round.specs.Round.{held, boxes_for, write_boxes};
+ghost use Rattle.round.specs.Round.{held, write_boxes};
 
 use boxes::close_all;
 use lots::Lot;
