@@ -26,10 +26,7 @@ impl<'a> Asker<'a> {
             Err(_) => self.last = Some(tested.end),
         }
         let round = tested.asked.drawn.ready.round;
-        let boxes = tested.asked.boxes.as_slice();
-        let ask = &tested.asked.ask;
-        let opened = tested.opened.as_ref().map_or(&[][..], |bytes| &bytes[..]);
-        self.showing.records.words(boxes, ask, opened, &tested.end)?;
+        self.showing.records.words(tested.words())?;
         let next = tested.settle();
         self.showing.close_round(round, Self::digest_of(&next))?;
         Ok(next?)

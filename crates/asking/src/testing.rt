@@ -15,6 +15,7 @@ use super::drawn::Drawn;
 use super::ready::Ready;
 use super::tested::Tested;
 use super::turning::turn;
+use book::{RoundWords, next};
 use round::{Outcome, Over, test_opened};
 use tasks::Fault;
 use words::{Word, behind_head, end_bytes, read_word};
@@ -71,14 +72,28 @@ impl Asked {
 }
 
 impl Tested {
+    // The words of the round.
+    pub fn words(&self) -> RoundWords<'_>
+        ensures boxes { result.boxes.now ≡ self.now.asked.boxes.items }
+        ensures ask { result.ask.now ≡ self.now.asked.ask }
+        ensures opened { result.opened.now ≡ counted self.now.opened }
+        ensures end { result.end.now ≡ self.now.end }
+    {
+        RoundWords {
+            boxes: &self.asked.boxes,
+            ask: &self.asked.ask,
+            opened: self.opened.as_ref().map_or(&[][..], |bytes| &bytes[..]),
+            end: &self.end,
+        }
+    }
+
     // The round is closed in the book: the next one, or the end after the last one or after a refused answer.
     pub fn settle(self) -> Result<Ready, Over>
         ensures { leads ready_of result ≡ settle sha256 (tested_of self) }
     {
+        let digest = next(self.asked.drawn.ready.digest, self.words());
         let asked = self.asked;
         let ready = asked.drawn.ready;
-        let opened = self.opened.as_ref().map_or(&[][..], |bytes| &bytes[..]);
-        let digest = book::next(ready.digest, &asked.boxes, &asked.ask, opened, &self.end);
         self.test.map_err(|fault| Over {
             outcome: Outcome::Fault(fault, ready.round),
             digest,

@@ -5,9 +5,12 @@ ghost use Rattle.tasks.specs.Model.{task_of};
 ghost use Rattle.tasks.specs.Reading.{looks};
 ghost use Rattle.judging.specs.Verdict.{content_of};
 ghost use Rattle.judging.specs.Judging.{look, content_in};
+ghost use Rattle.book.specs.Model.{text_of};
+ghost use Rattle.cutting.specs.Cutting.{text_of as round_text};
 ghost use Rattle.cutting.specs.Phases.{round_of, counted};
 
 use super::verdict::Content;
+use book::RoundWords;
 use cutting::Round;
 use fitting::pair_at;
 use round::test_opened;
@@ -19,6 +22,17 @@ pub(super) fn opened_in(round: &Round) -> &[u8]
     ensures { result.now ≡ counted vec_items round.now.opened }
 {
     round.opened.as_deref().unwrap_or_default()
+}
+
+pub(super) fn words_of(round: &Round) -> RoundWords<'_>
+    ensures { text_of result ≡ round_text (round_of round.now) }
+{
+    RoundWords {
+        boxes: &round.asked.boxes,
+        ask: &round.asked.ask,
+        opened: opened_in(round),
+        end: &round.end,
+    }
 }
 
 // A round that is closed, with its number, in a showing of the task.

@@ -3,10 +3,9 @@ ghost use Rattle.std.specs.Prelude.{◌≡◌, ◌^◌, ◌<◌, true, IfOk};
 ghost use Rattle.sha256.specs.Sha256.{sha256};
 ghost use Rattle.tasks.specs.Model.{task_of};
 ghost use Rattle.tasks.specs.Reading.{Meets, looks};
-ghost use Rattle.book.specs.Chain.{next_digest};
 ghost use Rattle.judging.specs.Verdict.{content_of, redrawn_of, verdict_of, first_of, first_drawn};
 ghost use Rattle.judging.specs.Judging.{content_in, redrawn_in, nothing_yet};
-ghost use Rattle.cutting.specs.Cutting.{text_of, behind};
+ghost use Rattle.cutting.specs.Cutting.{behind};
 ghost use Rattle.cutting.specs.Phases.{round_of, awaits_of};
 ghost use Rattle.judging.specs.Plans.{plan_in, fits_if_any};
 ghost use Rattle.judging.specs.Steps.{begin, tested_if_any, start, closing, step, finish};
@@ -17,8 +16,9 @@ ghost use Rattle.judging.specs.Redrawing.{TellsDifference};
 ghost use Rattle.judging.specs.Binding.{WordsBind, NoOtherWords};
 
 use super::judge::Judge;
-use super::looking::{Closed, opened_in};
+use super::looking::{Closed, words_of};
 use super::verdict::{Content, Redrawn, Verdict};
+use book::next;
 use cutting::{Awaits, Heard, Round, hear};
 use fitting::test_plan;
 use std::alloc::{AllocError, Global};
@@ -59,19 +59,6 @@ fn begin(heap: Global, task: Task, plan: Option<Plan>) -> Result<Judge, AllocErr
         awaits: Awaits::Boxes,
         memory,
     })
-}
-
-fn digest_after(digest: [u8; 32], round: &Round) -> [u8; 32]
-    ensures { result ≡ next_digest sha256 digest (text_of (round_of round.now)) }
-{
-    let asked = &round.asked;
-    book::next(
-        digest,
-        &asked.boxes,
-        &asked.ask,
-        opened_in(round),
-        &round.end,
-    )
 }
 
 fn behind(round: &Round) -> Awaits
@@ -118,7 +105,7 @@ impl Judge {
     {
         self.content = self.content_with(closed);
         self.redrawn = self.redrawn_with(drawn, closed);
-        self.digest = digest_after(self.digest, closed);
+        self.digest = next(self.digest, words_of(closed));
         self.awaits = behind(closed);
         self.round += 1;
         self

@@ -1,6 +1,7 @@
 // The book and the transcript, written round by round, so that they are whole however a showing ends.
 use super::hex::Hex;
 use super::kept::Kept;
+use book::RoundWords;
 use command::Problem;
 use std::alloc::Global;
 use std::fmt::Display;
@@ -32,20 +33,14 @@ impl Records {
     }
 
     // The words of a closed round.
-    pub fn words(
-        &mut self,
-        boxes: &[u8],
-        ask: &[u8],
-        opened: &[u8],
-        end: &[u8],
-    ) -> Result<(), Problem> {
+    pub fn words(&mut self, round: RoundWords) -> Result<(), Problem> {
         let Some(words) = &mut self.words else {
             return Ok(());
         };
-        words.write(boxes)?;
-        words.write(ask)?;
-        words.write(opened)?;
-        words.write(end)?;
+        words.write(round.boxes)?;
+        words.write(round.ask)?;
+        words.write(round.opened)?;
+        words.write(round.end)?;
         words.flush()
     }
 

@@ -20,12 +20,7 @@ impl<'a> Planner<'a> {
 
     fn close_round(&mut self, heard: Heard) -> Result<Ready, Stop> {
         let round = heard.opened.closed.ready.round;
-        self.showing.records.words(
-            heard.opened.closed.ready.boxes.as_slice(),
-            &heard.opened.ask,
-            &heard.opened.opened,
-            &heard.end,
-        )?;
+        self.showing.records.words(heard.words())?;
         let next = heard.settle();
         self.showing.close_round(round, Self::digest_of(&next))?;
         Ok(next?)

@@ -3,8 +3,6 @@ ghost use Rattle.std.specs.Prelude.{◌≡◌, ◌+◌, ◌*◌, ◌<◌, length
 ghost use Rattle.sha256.specs.Sha256.{sha256};
 ghost use Rattle.tasks.specs.Fault.{number};
 ghost use Rattle.tasks.specs.Model.{task_of, plan_of};
-ghost use Rattle.book.specs.Lengths.{round_text};
-ghost use Rattle.book.specs.Chain.{next_digest};
 ghost use Rattle.lots.specs.Views.{lot_of};
 ghost use Rattle.words.specs.Writing.{said_bytes};
 ghost use Rattle.round.specs.Over.{over_of, leads};
@@ -16,7 +14,7 @@ use super::closed::Closed;
 use super::heard::Heard;
 use super::opened::Opened;
 use super::ready::Ready;
-use book::next;
+use book::{RoundWords, next};
 use lots::{Lot, draw_lot};
 use round::{Outcome, Over, go_on, opened_word, write_boxes};
 use tasks::Fault;
@@ -56,28 +54,39 @@ impl Ready {
             used: drawn.len() - had.left.len(),
         })
     }
-}
 
-fn open(closed: &Closed, pair: u16) -> [u8; 75]
-    requires { pair < length (task_of closed.now.ready.task).pairs }
-    ensures { result ≡ said_bytes (opened_for (task_of closed.now.ready.task) closed.now.ready.round (plan_of closed.now.ready.plan) (closed_of closed.now).lot pair) }
-{
-    let ready = &closed.ready;
-    let lot = Lot {
-        order: closed.order,
-        chances: &ready.chances,
-    };
-    opened_word(&ready.task, &ready.plan, ready.round, &lot, pair).unwrap()
+    // The round after this one, or the end after the last one.
+    fn next_round(mut self, digest: [u8; 32]) -> Result<Ready, Over>
+        ensures { leads ready_of result ≡ turn record { task = task_of self.task; plan = plan_of self.plan; rounds = self.rounds.count; round = self.round + 1; digest = digest } }
+    {
+        let round = self.round + 1;
+        go_on(self.rounds, round, digest)?;
+        self.round = round;
+        self.digest = digest;
+        Ok(self)
+    }
 }
 
 impl Closed {
+    fn open(&self, pair: u16) -> [u8; 75]
+        requires { pair < length (task_of self.now.ready.task).pairs }
+        ensures { result ≡ said_bytes (opened_for (task_of self.now.ready.task) self.now.ready.round (plan_of self.now.ready.plan) (closed_of self.now).lot pair) }
+    {
+        let ready = &self.ready;
+        let lot = Lot {
+            order: self.order,
+            chances: &ready.chances,
+        };
+        opened_word(&ready.task, &ready.plan, ready.round, &lot, pair).unwrap()
+    }
+
     // The boxes of the pair asked for opened, or the end by the fault of the word.
     pub fn answer(self, word: &[u8]) -> Result<Opened, Over>
         ensures { leads opened_of result ≡ answer (closed_of self) word.now }
     {
         let ready = &self.ready;
         let pair = ready.read_ask(word).map_err(|fault| ready.stops(fault))?;
-        let opened = open(&self, pair);
+        let opened = self.open(pair);
         Ok(Opened {
             closed: self,
             ask: word.try_into().unwrap(),
@@ -101,42 +110,34 @@ impl Opened {
     }
 }
 
-// The next round, or the end after the last one.
-fn next_round(mut ready: Ready, digest: [u8; 32]) -> Result<Ready, Over>
-    ensures { leads ready_of result ≡ turn (record { task = task_of ready.task; plan = plan_of ready.plan; rounds = ready.rounds.count; round = ready.round + 1; digest = digest }) }
-{
-    let round = ready.round + 1;
-    go_on(ready.rounds, round, digest)?;
-    ready.round = round;
-    ready.digest = digest;
-    Ok(ready)
-}
-
-fn digest_after(heard: &Heard) -> [u8; 32]
-    ensures { result ≡ next_digest sha256 heard.now.opened.closed.ready.digest (round_text heard.now.opened.closed.ready.boxes.items heard.now.opened.ask heard.now.opened.opened heard.now.end) }
-{
-    let ready = &heard.opened.closed.ready;
-    next(
-        ready.digest,
-        &ready.boxes,
-        &heard.opened.ask,
-        &heard.opened.opened,
-        &heard.end,
-    )
-}
-
 impl Heard {
+    // The words of the round.
+    pub fn words(&self) -> RoundWords<'_>
+        ensures boxes { result.boxes.now ≡ self.now.opened.closed.ready.boxes.items }
+        ensures ask { result.ask.now ≡ self.now.opened.ask }
+        ensures opened { result.opened.now ≡ self.now.opened.opened }
+        ensures end { result.end.now ≡ self.now.end }
+    {
+        RoundWords {
+            boxes: &self.opened.closed.ready.boxes,
+            ask: &self.opened.ask,
+            opened: &self.opened.opened,
+            end: &self.end,
+        }
+    }
+
     // The round closed in the book; and the next one, or the end where that was the last or the asker isn't content.
     pub fn settle(self) -> Result<Ready, Over>
         ensures { leads ready_of result ≡ settle sha256 (heard_of self) }
     {
-        let digest = digest_after(&self);
+        let digest = next(self.opened.closed.ready.digest, self.words());
+        let ready = self.opened.closed.ready;
         if !self.content {
             return Err(Over {
-                outcome: Outcome::NotContent(self.opened.closed.ready.round),
+                outcome: Outcome::NotContent(ready.round),
                 digest,
             });
         }
-        next_round(self.opened.closed.ready, digest)
+        ready.next_round(digest)
     }
 }
