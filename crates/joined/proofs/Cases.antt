@@ -85,11 +85,11 @@ module _ (H : List ℕ → List ℕ) (sized : Sized H) (digest chances another :
       let y = opening_for (0 ∷ 1 ∷ 2 ∷ []) (lot_of chances) 0 in
       elim (cases_Bool (opens_in H 0 digests x)) [
         | inl e ↦
-          let same : H (text_of 0 x) ≡ H (text_of 0 y) = (same_decides _ _).0 e ∙ (laid H sized).each 0 0 (2 ∷ 0 ∷ 1 ∷ []) chances 0 (lit< tt) in
-          elim (opened-same x y H (H (text_of 0 y)) 0 (lit< tt) (lit< tt) ((same_decides _ _).1 same) (same_itself (H (text_of 0 y)))) [
-            | inl q ↦ absurd (differ (ap (λ o. o.chance) q))
-            | inr c ↦ inr c
-          ]
+            let same : H (text_of 0 x) ≡ H (text_of 0 y) = (same_decides _ _).0 e ∙ (laid H sized).each 0 0 (2 ∷ 0 ∷ 1 ∷ []) chances 0 (lit< tt) in
+            elim (opened-same x y H (H (text_of 0 y)) 0 (lit< tt) (lit< tt) ((same_decides _ _).1 same) (same_itself (H (text_of 0 y)))) [
+              | inl q ↦ absurd (differ (ap (λ o. o.chance) q))
+              | inr c ↦ inr c
+            ]
         | inr e ↦ inl e
       ]
 

@@ -7,8 +7,7 @@ mod telling;
 
 use arguments::{Arguments, Wrong};
 use command::{
-    Ending, Input, Problem, Usage, exit_code, load_fitting_plan, load_task,
-    read_arguments,
+    Ending, Input, Problem, Usage, exit_code, load_fitting_plan, load_task, read_arguments,
 };
 use digest::digest_in;
 use drawing::default_rounds;
@@ -115,8 +114,18 @@ fn judge(rt: &HostRuntime) -> Result<Ending, Problem> {
         .transpose()?;
     let (plan, faulty, drawn) = match handed_over {
         None => (None, None, None),
-        Some(HandedOver { plan: Ok(plan), drawn }) => (Some(plan), None, Some(drawn)),
-        Some(HandedOver { plan: Err(problem), drawn }) => (None, Some(problem), Some(drawn)),
+        Some(
+            HandedOver {
+                plan: Ok(plan),
+                drawn,
+            },
+        ) => (Some(plan), None, Some(drawn)),
+        Some(
+            HandedOver {
+                plan: Err(problem),
+                drawn,
+            },
+        ) => (None, Some(problem), Some(drawn)),
     };
     let judge = Judge::start(rt.alloc(), task, plan)?;
     let verdict = Hearing::new(rt.alloc(), words, drawn).all(judge, last)?;
