@@ -11,7 +11,7 @@ pub struct Asker<'a> {
     pub last: Option<[u8; 6]>,
 }
 
-impl<'a> Asker<'a> {
+impl Asker<'_> {
     // The Task, and all rounds, to the end.
     pub fn all_rounds(&mut self, awaiting: Awaiting) -> Result<Over, Problem> {
         let word = self.showing.line.hear(&awaiting.task)?;
@@ -34,15 +34,11 @@ impl<'a> Asker<'a> {
 
     // What is still to be sent at the end.
     pub fn send_last(&self) -> Result<(), Problem> {
-        let last = self.last;
-        match last {
-            Some(end) => self.showing.line.send(&end),
-            None => Ok(()),
-        }
+        self.last.map_or(Ok(()), |end| self.showing.line.send(&end))
     }
 }
 
-impl<'a> Side for Asker<'a> {
+impl Side for Asker<'_> {
     type Ready = Ready;
 
     // Boxes in, Ask out, Opened in, End out.

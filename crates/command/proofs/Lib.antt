@@ -1,2 +1,3 @@
 mod Plans
+mod Names
 mod Numbers

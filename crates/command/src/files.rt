@@ -55,6 +55,7 @@ fn load<T, F: FnOnce(&[u8]) -> Result<T, Fault>>(
     ensures told { IfErr result (λ p. names p name) }
     ensures pair { IfErr result (λ p. told_pair p ≡ None) }
 {
+    // The name goes into the error or on, so both of these are matches: a closure for `map_err` would take it.
     let bytes = match read_at_most(rt, name.as_str(), most) {
         Ok(bytes) => bytes,
         Err(error) => return Err(Problem::File(name, error)),

@@ -20,6 +20,7 @@ impl Input {
         ensures ok { IfOk result (λ input. input.name ≡ name) }
         ensures told { IfErr result (λ p. names p name) }
     {
+        // The name goes into the error or on: a closure for `map_err` would take it.
         let file = match File::open(rt, name.as_str()) {
             Ok(file) => file,
             Err(error) => return Err(Problem::File(name, error)),
@@ -42,10 +43,10 @@ impl Input {
         ensures { InFileOf self.now.name problem result }
     {
         match problem {
-            Problem::Stream(error) => match self.name.clone() {
-                Ok(name) => Problem::File(name, error),
-                Err(_) => Problem::Memory,
-            },
+            Problem::Stream(error) => self
+                .name
+                .clone()
+                .map_or(Problem::Memory, |name| Problem::File(name, error)),
             other => other,
         }
     }
@@ -54,10 +55,7 @@ impl Input {
     pub fn in_round(&self, fault: Fault, round: u32) -> Problem
         ensures { NamedBy self.now.name (λ name p. p ≡ Problem.InRound fault round name) result }
     {
-        match self.name.clone() {
-            Ok(name) => Problem::InRound(fault, round, name),
-            Err(_) => Problem::Memory,
-        }
+        self.name.clone().map_or(Problem::Memory, |name| Problem::InRound(fault, round, name))
     }
 }
 
@@ -70,10 +68,10 @@ mod tests {
     #[test]
     fn reads_on(rt: HostRuntime) -> Result<(), Fail> {
         let name = String::from_str(rt.alloc(), "/dev/zero")?;
-        let mut input = Input::open(&rt, name).ok().ok_or("not opened")?;
+        let mut input = Input::open(&rt, name)?;
         let mut bytes = Vec::new(rt.alloc());
-        let first = input.read(4, &mut bytes).ok().ok_or("not read")?;
-        let second = input.read(2, &mut bytes).ok().ok_or("not read on")?;
+        let first = input.read(4, &mut bytes)?;
+        let second = input.read(2, &mut bytes)?;
         assert_eq!(rt; first, 4);
         assert_eq!(rt; second, 2);
         assert!(rt; bytes.as_slice() == [0; 6].as_slice());

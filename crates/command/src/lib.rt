@@ -10,5 +10,5 @@ mod rounds;
 pub use files::{Loaded, load_fitting_plan, load_task};
 pub use input::Input;
 pub use problem::{Ending, Problem, conclude, finish};
-pub use program::{Usage, exit_code, read_arguments};
+pub use program::{Program, Usage, exit_code, read_arguments, run};
 pub use rounds::read_rounds;

@@ -5,59 +5,36 @@ ghost use Rattle.command.specs.Endings.{is_well};
 use arguments::Wrong;
 use line::LineError;
 use std::alloc::{AllocError, AllocFailed};
-use std::{fmt, io};
+use std::io;
 use tasks::{Fault, Unfit};
+use thiserror::Error;
 
-#[derive(Drop)]
+#[derive(Debug, Drop, Error)]
 pub enum Problem {
-    Argument(Wrong),
+    #[error(transparent)]
+    Argument(#[from] Wrong),
     // A file that can't be opened or read.
+    #[error("can't read {0}: {1}")]
     File(String, io::Error),
     // A file that can't be written.
+    #[error("can't write {0}: {1}")]
     Written(String, io::Error),
+    #[error("{0}")]
     Fault(Fault),
+    #[error("{0}, in {1}")]
     InFile(Fault, String),
+    #[error("{0}, round {1}, in {2}")]
     InRound(Fault, u32, String),
     // A plan that fails a pair, told with the pair.
+    #[error("{fault}, pair {pair}, trains {first} and {second}, in {1}", fault = Fault::Unfit(*.0), pair = .0.pair, first = .0.first, second = .0.second)]
     Unfit(Unfit, String),
-    Stream(io::Error),
+    #[error(transparent)]
+    Stream(#[from] io::Error),
+    #[error("out of memory")]
     Memory,
 }
 
-// This and the conversions are written out: some of them choose the case, and one text takes a part of its value.
-impl fmt::Display for Problem {
-    fn fmt<W: fmt::Write>(&self, f: &mut fmt::Formatter<W>) -> fmt::Result {
-        match self {
-            Problem::Argument(wrong) => write!(f, "{wrong}"),
-            Problem::File(name, error) => write!(f, "can't read {name}: {error}"),
-            Problem::Written(name, error) => write!(f, "can't write {name}: {error}"),
-            Problem::Fault(fault) => write!(f, "{fault}"),
-            Problem::InFile(fault, name) => write!(f, "{fault}, in {name}"),
-            Problem::InRound(fault, round, name) => write!(f, "{fault}, round {round}, in {name}"),
-            Problem::Unfit(unfit, name) => {
-                let Unfit {
-                    pair,
-                    first,
-                    second,
-                } = *unfit;
-                let fault = Fault::Unfit(*unfit);
-                write!(
-                    f,
-                    "{fault}, pair {pair}, trains {first} and {second}, in {name}"
-                )
-            }
-            Problem::Stream(error) => write!(f, "{error}"),
-            Problem::Memory => f.write_str("out of memory"),
-        }
-    }
-}
-
-impl From<Wrong> for Problem {
-    fn from(wrong: Wrong) -> Problem {
-        Problem::Argument(wrong)
-    }
-}
-
+// The conversions that choose the case stand by hand.
 impl From<AllocError> for Problem {
     fn from(_error: AllocError) -> Problem {
         Problem::Memory
@@ -67,12 +44,6 @@ impl From<AllocError> for Problem {
 impl<T: Drop> From<AllocFailed<T>> for Problem {
     fn from(_refused: AllocFailed<T>) -> Problem {
         Problem::Memory
-    }
-}
-
-impl From<io::Error> for Problem {
-    fn from(error: io::Error) -> Problem {
-        Problem::Stream(error)
     }
 }
 
@@ -98,11 +69,7 @@ impl From<Fault> for Problem {
 pub fn finish(rt: &HostRuntime, usage: &str, res: Result<(), Problem>) -> Result<(), ()>
     ensures { is_ok result ≡ is_ok res }
 {
-    let Err(problem) = res else {
-        return Ok(());
-    };
-    tell(rt, usage, problem);
-    Err(())
+    res.map_err(|problem| tell(rt, usage, problem))
 }
 
 // How a program that had no problem ended: all is well, or what it told is not as one would have it. The worse is the greater.

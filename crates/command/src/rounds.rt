@@ -21,7 +21,7 @@ fn with_digit(count: u64, digit: u8) -> Option<u64>
     Some(count * 10 + (digit - b'0') as u64)
 }
 
-// By digits, and not by `parse`, which takes a sign and refuses a number of many digits.
+// By digits, and not by `parse`, which takes a sign and refuses a number of many digits. In a loop, since the check doesn't find the proof by what `try_fold` promises.
 fn number(text: &[u8]) -> Option<u64>
     ensures { option_map asked_rounds result ≡ asked text.now }
 {
@@ -39,8 +39,6 @@ fn number(text: &[u8]) -> Option<u64>
 pub fn read_rounds(text: String) -> Result<Rounds, Problem>
     ensures { Heard text result }
 {
-    let Some(count) = number(text.as_bytes()) else {
-        return Err(Problem::Argument(Wrong::Word(text)));
-    };
+    let count = number(text.as_bytes()).ok_or(Problem::Argument(Wrong::Word(text)))?;
     Rounds::new(count).map_err(Problem::Fault)
 }

@@ -129,7 +129,7 @@ pub struct Table<'a> {
     pub task: &'a Task,
 }
 
-impl<'a> Table<'a> {
+impl Table<'_> {
     // What a stream of these bytes gives.
     fn streamed(&self, bytes: &[u8]) -> anyhow::Result<Vec<u8>> {
         let mut word = Vec::new(self.rt.alloc());

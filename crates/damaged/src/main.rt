@@ -12,9 +12,7 @@ use tasks::read_task;
 const TASK: [u8; 14] = [1, 0, 3, 2, 0, 2, 0, 0, 0, 1, 0, 1, 0, 2];
 
 fn main(rt: HostRuntime) -> anyhow::Result<()> {
-    let Ok(task) = read_task(rt.alloc(), &TASK) else {
-        return Err(anyhow!("the task is refused"));
-    };
+    let task = read_task(rt.alloc(), &TASK).map_err(|_| anyhow!("the task is refused"))?;
     let table = Table {
         rt: &rt,
         task: &task,

@@ -8,7 +8,7 @@ pub struct Told<'a> {
     pub answer: Result<Word<'a>, Fault>,
 }
 
-impl<'a> fmt::Display for Told<'a> {
+impl fmt::Display for Told<'_> {
     fn fmt<W: fmt::Write>(&self, f: &mut fmt::Formatter<W>) -> fmt::Result {
         match &self.answer {
             Err(fault) => write!(f, "fault {}", fault.number()),
@@ -17,7 +17,7 @@ impl<'a> fmt::Display for Told<'a> {
     }
 }
 
-fn tell_word<W: fmt::Write>(word: Word, f: &mut fmt::Formatter<W>) -> fmt::Result {
+fn tell_word<W: fmt::Write>(word: Word<'_>, f: &mut fmt::Formatter<W>) -> fmt::Result {
     match word {
         Word::Task(bytes) => write!(f, "Task of {} bytes", bytes.len()),
         Word::Plan(paths) => tell_plan(paths, f),

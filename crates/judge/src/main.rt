@@ -6,9 +6,7 @@ mod hearing;
 mod telling;
 
 use arguments::{Arguments, Wrong};
-use command::{
-    Ending, Input, Problem, Usage, exit_code, load_fitting_plan, load_task, read_arguments,
-};
+use command::{Ending, Input, Problem, Program, Usage, load_fitting_plan, load_task, run};
 use digest::digest_in;
 use drawing::default_rounds;
 use hearing::Hearing;
@@ -17,16 +15,6 @@ use keeping::Drawn;
 use std::process::ExitCode;
 use tasks::{Fault, Plan, Task};
 use telling::tell;
-
-const USAGE: Usage = Usage {
-    call: "usage: judge --task FILE --words FILE --digest HEX [--plan FILE --drawn FILE]",
-    options: "  --task FILE    the task: trains, paths, and the pairs of trains that may not share a path
-  --words FILE   all words that were sent in the showing
-  --digest HEX   the last digest of the showing, 64 hexadecimal digits
-  --plan FILE    the planner's plan, where the planner hands it over
-  --drawn FILE   the planner's drawn bytes, together with the plan
-  --help         print this and do nothing else",
-};
 
 // The files of what the planner hands over.
 #[derive(Drop)]
@@ -64,13 +52,6 @@ fn read_options(mut arguments: Arguments) -> Result<Options, Wrong> {
     Ok(options)
 }
 
-// The plan, or its fault, which is told in its place, after all that the words say; and the drawn bytes.
-#[derive(Drop)]
-struct HandedOver {
-    plan: Result<Plan, Problem>,
-    drawn: Drawn,
-}
-
 // A fault of the plan is told late, and any other problem at once: two errors, each in its own place of the type. The judge doesn't tell the pair that a plan
 // fails.
 fn load_plan(
@@ -81,57 +62,48 @@ fn load_plan(
     match load_fitting_plan(rt, task, name) {
         Ok(plan) => Ok(Ok(plan)),
         Err(Problem::Unfit(unfit, file)) => Ok(Err(Problem::InFile(Fault::Unfit(unfit), file))),
-        Err(Problem::InFile(fault, file)) => Ok(Err(Problem::InFile(fault, file))),
+        Err(problem @ Problem::InFile(..)) => Ok(Err(problem)),
         Err(other) => Err(other),
     }
 }
 
-fn open_handed_over(rt: &HostRuntime, task: &Task, names: Names) -> Result<HandedOver, Problem> {
-    Ok(HandedOver {
-        plan: load_plan(rt, task, names.plan)?,
-        drawn: Drawn::open(rt, names.drawn)?,
-    })
-}
+struct TheJudge;
 
-fn judge(rt: &HostRuntime) -> Result<Ending, Problem> {
-    let Some(arguments) = read_arguments(rt, USAGE)? else {
-        return Ok(Ending::Well);
+impl Program for TheJudge {
+    const USAGE: Usage = Usage {
+        call: "usage: judge --task FILE --words FILE --digest HEX [--plan FILE --drawn FILE]",
+        options: "  --task FILE    the task: trains, paths, and the pairs of trains that may not share a path
+  --words FILE   all words that were sent in the showing
+  --digest HEX   the last digest of the showing, 64 hexadecimal digits
+  --plan FILE    the planner's plan, where the planner hands it over
+  --drawn FILE   the planner's drawn bytes, together with the plan
+  --help         print this and do nothing else",
     };
-    let Options {
-        task,
-        words,
-        digest,
-        handed_over,
-    } = read_options(arguments)?;
-    let task = load_task(rt, task)?.value;
-    let Some(last) = digest_in(digest.as_str()) else {
-        return Err(Problem::Argument(Wrong::Word(digest)));
-    };
-    let default = default_rounds(task.pairs.len() as u16);
-    let words = Input::open(rt, words)?;
-    let handed_over = handed_over
-        .map(|names| open_handed_over(rt, &task, names))
-        .transpose()?;
-    let (plan, faulty, drawn) = match handed_over {
-        None => (None, None, None),
-        Some(
-            HandedOver {
-                plan: Ok(plan),
-                drawn,
-            },
-        ) => (Some(plan), None, Some(drawn)),
-        Some(
-            HandedOver {
-                plan: Err(problem),
-                drawn,
-            },
-        ) => (None, Some(problem), Some(drawn)),
-    };
-    let judge = Judge::start(rt.alloc(), task, plan)?;
-    let verdict = Hearing::new(rt.alloc(), words, drawn).all(judge, last)?;
-    tell(rt, verdict, default, faulty)
+
+    fn run(rt: &HostRuntime, arguments: Arguments) -> Result<Ending, Problem> {
+        let Options {
+            task,
+            words,
+            digest,
+            handed_over,
+        } = read_options(arguments)?;
+        let task = load_task(rt, task)?.value;
+        let last = digest_in(digest.as_str()).ok_or(Wrong::Word(digest))?;
+        let default = default_rounds(task.pairs.len() as u16);
+        let words = Input::open(rt, words)?;
+        let (plan, drawn) = handed_over.map(|names| (names.plan, names.drawn)).unzip();
+        let plan = plan.map(|name| load_plan(rt, &task, name)).transpose()?;
+        let drawn = drawn.map(|name| Drawn::open(rt, name)).transpose()?;
+        let (plan, faulty) = match plan.transpose() {
+            Ok(plan) => (plan, None),
+            Err(problem) => (None, Some(problem)),
+        };
+        let judge = Judge::start(rt.alloc(), task, plan)?;
+        let verdict = Hearing::new(rt.alloc(), words, drawn).all(judge, last)?;
+        tell(rt, verdict, default, faulty)
+    }
 }
 
 fn main(rt: HostRuntime) -> ExitCode {
-    exit_code(&rt, USAGE, judge(&rt))
+    run::<TheJudge>(&rt)
 }

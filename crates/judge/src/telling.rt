@@ -11,30 +11,21 @@ pub fn tell(
     faulty: Option<Problem>,
 ) -> Result<Ending, Problem> {
     match verdict {
-        Verdict::BadWords(fault, round) => {
-            println!(rt; "{fault}, round {round}")?;
-            Ok(Ending::Ill)
-        }
+        Verdict::BadWords(fault, round) => println!(rt; "{fault}, round {round}")?,
         Verdict::OtherWords => {
             let fault = Fault::OtherWords;
             println!(rt; "{fault}")?;
-            Ok(Ending::Ill)
         }
         Verdict::Judged(rounds, content, redrawn) => {
             println!(rt;
                 "the words fit the digest, {rounds} rounds; the default for this task is {default}"
             )?;
             let first = tell_content(rt, rounds, content)?;
-            let second = match faulty {
-                None => tell_redrawn(rt, redrawn)?,
-                Some(problem) => {
-                    println!(rt; "{problem}")?;
-                    Ending::Ill
-                }
-            };
-            Ok(first.max(second))
+            let second = tell_handed_over(rt, redrawn, faulty)?;
+            return Ok(first.max(second));
         }
     }
+    Ok(Ending::Ill)
 }
 
 fn tell_content(rt: &HostRuntime, rounds: u32, content: Content) -> Result<Ending, Problem> {
@@ -49,6 +40,19 @@ fn tell_content(rt: &HostRuntime, rounds: u32, content: Content) -> Result<Endin
         Content::Not(round, Err(fault)) => println!(rt; "not content in round {round}: {fault}")?,
         Content::But(round, fault) => println!(rt; "content in round {round}, but {fault}")?,
     }
+    Ok(Ending::Ill)
+}
+
+// What came of what was handed over. With a faulty plan nothing was drawn again.
+fn tell_handed_over(
+    rt: &HostRuntime,
+    redrawn: Redrawn,
+    faulty: Option<Problem>,
+) -> Result<Ending, Problem> {
+    let Some(problem) = faulty else {
+        return tell_redrawn(rt, redrawn);
+    };
+    println!(rt; "{problem}")?;
     Ok(Ending::Ill)
 }
 

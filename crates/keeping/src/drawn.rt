@@ -4,7 +4,8 @@ use lots::{draw_lot, draw_question};
 use std::io::ErrorKind;
 use tasks::Task;
 
-// What was read and not let go yet, and how much of it the last round took.
+// What was read and not let go yet, and how much of it the last round took. The input is buffered, but its buffer has one size, and a round's bytes have to lie
+// side by side.
 #[derive(Drop)]
 pub struct Drawn {
     input: Input,
@@ -23,10 +24,11 @@ impl Drawn {
 
     // Holds enough for the planner's lot of the next round, or all that is left.
     pub fn lot(&mut self, task: &Task) -> Result<(), Problem> {
+        // Four for each number of the order, and a chance for each train. No more than a first guess: where values are passed over, a lot takes more.
         let least = 4 * (task.paths as usize - 1) + 32 * task.trains as usize;
         self.fill(
             least,
-            move |bytes| Some(draw_lot(task, bytes).ok()?.left.len()),
+            move |bytes| draw_lot(task, bytes).ok().map(|had| had.left.len()),
         )
     }
 
@@ -34,7 +36,7 @@ impl Drawn {
     pub fn question(&mut self, task: &Task) -> Result<(), Problem> {
         self.fill(
             4,
-            move |bytes| Some(draw_question(task, bytes).ok()?.left.len()),
+            move |bytes| draw_question(task, bytes).ok().map(|had| had.left.len()),
         )
     }
 
@@ -43,8 +45,9 @@ impl Drawn {
         self.bytes.as_slice()
     }
 
-    // A round takes so many bytes at least; `leaves` says how many of these bytes it leaves over, and nothing where they are too few. Where values are passed
-    // over, as many bytes again are read as there are: after 64 times no memory would hold them.
+    // A round takes so many bytes at least; `leaves` says how many of these bytes it leaves over, and nothing where they are too few. So a lot is drawn once here,
+    // to see whether the bytes suffice, and once by the round's step, which gives its state up where it is refused, and so can't be tried. Where values are passed
+    // over, as many bytes again are read as there are: after 64 times no memory would hold them, and the bound is there only since a loop has to end.
     fn fill<F: Fn(&[u8]) -> Option<usize>>(
         &mut self,
         least: usize,

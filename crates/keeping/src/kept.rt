@@ -16,6 +16,7 @@ impl Kept {
         let Some(name) = name else {
             return Ok(None);
         };
+        // The name goes into the error or on: a closure for `map_err` would take it.
         match File::create(rt, name.as_str()) {
             Ok(file) => Ok(Some(Kept {
                 file: BufWriter::new(rt.alloc(), file).map_err(|_| Problem::Memory)?,
@@ -36,9 +37,6 @@ impl Kept {
     }
 
     fn told(&self, res: io::Result<()>) -> Result<(), Problem> {
-        let Err(error) = res else {
-            return Ok(());
-        };
-        Err(Problem::Written(self.name.clone()?, error))
+        res.try_map_err(|error| Ok(Problem::Written(self.name.clone()?, error)))
     }
 }

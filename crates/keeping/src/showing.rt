@@ -64,7 +64,7 @@ impl<'a> Showing<'a> {
     }
 }
 
-// Why a side doesn't go on to another round.
+// Why a side doesn't go on to another round. An enum of its own, with two conversions, so that `?` takes an end of either kind.
 #[derive(Drop)]
 pub enum Stop {
     Over(Over),
@@ -101,7 +101,7 @@ pub trait Side {
     }
 }
 
-// All rounds, to the end; none after an end.
+// All rounds, to the end; none after an end. The bound is there only since a loop has to end: a side's own states stop after their last round.
 pub fn run<S: Side>(side: &mut S, first: Result<S::Ready, Over>) -> Result<Over, Problem>
     ensures { (over : Over) → first ≡ Err over → result ≡ Ok over }
 {

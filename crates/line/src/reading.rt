@@ -11,7 +11,7 @@ use std::ops::ControlFlow;
 use tasks::Task;
 use words::next_stop;
 
-// A turn takes a byte at least, or is interrupted, or is the last. No word has more than 32775 bytes.
+// A turn takes a byte at least, or is interrupted, or is the last. No word has more than 32775 bytes: the rest of the million is for interrupted calls.
 const TURNS: u32 = 1000000;
 
 // Adds what fits before the stop, and answers how much.

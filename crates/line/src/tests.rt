@@ -18,7 +18,7 @@ struct Drip<'a> {
     left: &'a [u8],
 }
 
-impl<'a> Read for Drip<'a> {
+impl Read for Drip<'_> {
     fn read(&mut self, buf: &mut [u8]) -> io::Result<usize> {
         if buf.is_empty() || self.left.is_empty() {
             return Ok(0);

@@ -2,9 +2,7 @@
 #![tactic(auto)]
 
 use arguments::{Arguments, Wrong};
-use command::{
-    Ending, Input, Problem, Usage, exit_code, load_fitting_plan, load_task, read_arguments,
-};
+use command::{Ending, Input, Problem, Program, Usage, load_fitting_plan, load_task, run};
 use pairing::{Plans, ask_in};
 use std::io::{BufWriter, Write};
 use std::process::ExitCode;
@@ -12,16 +10,6 @@ use tasks::{Fault, MOST_ROUNDS};
 
 // The length of a word that asks for a pair.
 const ASK_BYTES: u64 = 7;
-
-const USAGE: Usage = Usage {
-    call: "usage: pair --task FILE --first FILE --second FILE --coins FILE --asked FILE",
-    options: "  --task FILE     the task: trains, paths, and the pairs of trains that may not share a path
-  --first FILE    a plan that fits the task
-  --second FILE   another plan that fits the task
-  --coins FILE    the coins of the first plan: for each round an order (a byte for each path) and the chances (32 bytes for each train)
-  --asked FILE    the pairs that were asked for: the words that ask for them, of rounds 0, 1, ..
-  --help          print this and do nothing else",
-};
 
 #[derive(Drop)]
 struct Options {
@@ -114,27 +102,38 @@ fn make_coins(
     Ok(())
 }
 
-fn pair(rt: &HostRuntime) -> Result<Ending, Problem> {
-    let Some(arguments) = read_arguments(rt, USAGE)? else {
-        return Ok(Ending::Well);
+struct ThePair;
+
+impl Program for ThePair {
+    const USAGE: Usage = Usage {
+        call: "usage: pair --task FILE --first FILE --second FILE --coins FILE --asked FILE",
+        options: "  --task FILE     the task: trains, paths, and the pairs of trains that may not share a path
+  --first FILE    a plan that fits the task
+  --second FILE   another plan that fits the task
+  --coins FILE    the coins of the first plan: for each round an order (a byte for each path) and the chances (32 bytes for each train)
+  --asked FILE    the pairs that were asked for: the words that ask for them, of rounds 0, 1, ..
+  --help          print this and do nothing else",
     };
-    let Options {
-        task,
-        first,
-        second,
-        coins,
-        asked,
-    } = read_options(arguments)?;
-    let task = load_task(rt, task)?.value;
-    let first = load_fitting_plan(rt, &task, first)?;
-    let second = load_fitting_plan(rt, &task, second)?;
-    let plans = Plans::new(task, first, second)?;
-    let coins = Input::open(rt, coins)?;
-    let asked = Input::open(rt, asked)?;
-    make_coins(rt, &plans, asked, coins)?;
-    Ok(Ending::Well)
+
+    fn run(rt: &HostRuntime, arguments: Arguments) -> Result<Ending, Problem> {
+        let Options {
+            task,
+            first,
+            second,
+            coins,
+            asked,
+        } = read_options(arguments)?;
+        let task = load_task(rt, task)?.value;
+        let first = load_fitting_plan(rt, &task, first)?;
+        let second = load_fitting_plan(rt, &task, second)?;
+        let plans = Plans::new(task, first, second)?;
+        let coins = Input::open(rt, coins)?;
+        let asked = Input::open(rt, asked)?;
+        make_coins(rt, &plans, asked, coins)?;
+        Ok(Ending::Well)
+    }
 }
 
 fn main(rt: HostRuntime) -> ExitCode {
-    exit_code(&rt, USAGE, pair(&rt))
+    run::<ThePair>(&rt)
 }

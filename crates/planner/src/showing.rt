@@ -9,7 +9,7 @@ pub struct Planner<'a> {
     pub showing: Showing<'a>,
 }
 
-impl<'a> Planner<'a> {
+impl Planner<'_> {
     // The Task, and all rounds, to the end.
     pub fn all_rounds(&mut self, begun: Begun) -> Result<Over, Problem> {
         let Begun { word, next } = begun;
@@ -27,7 +27,7 @@ impl<'a> Planner<'a> {
     }
 }
 
-impl<'a> Side for Planner<'a> {
+impl Side for Planner<'_> {
     type Ready = Ready;
 
     // Boxes out, Ask in, Opened out, End in.

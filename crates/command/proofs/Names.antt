@@ -1,0 +1,12 @@
+-- What is told with a copy of a name.
+use Rattle.std.proofs.Common.{◌≡◌, Ok, Err, Result, String, string_bytes, inl, inr}
+use Rattle.std.specs.Result.{MatchResult}
+use Rattle.std.specs.declared.alloc.Global.{Global}
+use Rattle.command.specs.declared.problem.Problem.{Problem}
+use Rattle.command.specs.declared.problem.Problem.TheVariants.{Memory}
+use Rattle.command.specs.Files.{NamedBy}
+
+module _ {E : Type 0} (Refused : E → Type 0) (Told : String Global → Type 0) where
+  pub named : (name : String Global) (tells : String Global → Problem → Type 0) {p : Problem} (copy : Result (String Global) E) → MatchResult copy (λ t. string_bytes t ≡ string_bytes name) Refused → MatchResult copy Told (λ e. p ≡ Memory) → ((t : String Global) → Told t → tells t p) → NamedBy name tells p
+  named name tells (Ok t) same told law = inr (t, same, law t told)
+  named name tells (Err e) same told law = inl told
