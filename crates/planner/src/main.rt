@@ -3,7 +3,9 @@
 
 mod showing;
 
-use command::{Ending, Problem, Usage, exit_code, load_fitting_plan, load_task, read_arguments};
+use command::{
+    Ending, Problem, Usage, exit_code, load_fitting_plan, load_task, read_arguments,
+};
 use drawing::default_rounds;
 use keeping::{Options, Showing};
 use showing::Planner;
