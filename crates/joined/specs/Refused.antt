@@ -4,6 +4,7 @@ use Rattle.paths.specs.Plan.{Task}
 use Rattle.tasks.specs.Reading.{got, refused, and_then}
 use Rattle.tasks.specs.Writing.{task_bytes}
 use Rattle.words.specs.Said.{end}
+use Rattle.words.specs.Awaited.{on_boxes}
 use Rattle.words.specs.Reading.{read_word}
 use Rattle.words.specs.Writing.{said_bytes}
 use Rattle.planning.specs.Planning as planning
@@ -30,6 +31,6 @@ pub record RefusedEnds (H : List ℕ → List ℕ) : Type 0 where
   pub no_task : (t : Task) (r : ℕ) (drawn word : List ℕ) (f : ℕ) (later : List (List ℕ)) →
       and_then (read_word t word) (asking.on_task (task_bytes t)) ≡ refused f → sends (asker H t r drawn) (word ∷ later) ≡ []
   pub no_boxes : (s : asking.Drawn) (left : ℕ) (drawn word : List ℕ) (f : ℕ) (later : List (List ℕ)) →
-      and_then (read_word s.ready.task word) (asking.on_boxes s.ready.round) ≡ refused f → sends (awaits_boxes H (asks H left drawn) s) (word ∷ later) ≡ []
+      and_then (read_word s.ready.task word) (on_boxes s.ready.round) ≡ refused f → sends (awaits_boxes H (asks H left drawn) s) (word ∷ later) ≡ []
   pub no_answer : (s : asking.Asked) (left : ℕ) (drawn word : List ℕ) (f : ℕ) (later : List (List ℕ)) →
       (asking.test H s word).test ≡ refused f → sends (awaits_answer H (asks H left drawn) s) (word ∷ later) ≡ said_bytes (end s.drawn.ready.round false) ∷ []
