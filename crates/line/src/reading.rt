@@ -32,6 +32,7 @@ fn add_part(held: &[u8], stop: usize, word: &mut Vec<u8>) -> Result<usize, Alloc
 }
 
 // Takes what the reader holds, but none beyond the stop, and breaks off where there is nothing more to take. An interrupted call takes nothing and is no error.
+#[tactic(auto, using(std::proofs::BufReadLemmas::Consumes_shown))]
 fn take_part<R: BufRead>(
     reader: &mut R,
     stop: usize,
