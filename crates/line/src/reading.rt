@@ -1,7 +1,9 @@
 // One word read from a stream, and no byte of the next.
-ghost use Rattle.std.specs.Prelude.{◌≤◌, vec_len};
+ghost use Rattle.std.specs.Prelude.{◌≡◌, ◌<◌, ◌≤◌, ◌++◌, length, take, vec_len, ⊤, IfOk, IfSome, MatchResult, OnOk, OnSome};
+ghost use Rattle.std.specs.ControlFlow.{IsContinueAnd, ForBreak};
+ghost use Rattle.std.specs.Io.KnownBytes.{Consumes, IsAtEnd};
 ghost use Rattle.tasks.specs.Model.{task_of};
-ghost use Rattle.line.specs.Wanted.{Wanted, OneWord, Grown};
+ghost use Rattle.line.specs.Wanted.{Wanted, OneWord, Ended, ExactWord, Taken};
 
 use super::error::LineError;
 use std::alloc::AllocError;
@@ -16,8 +18,13 @@ const TURNS: u32 = 1000000;
 
 // Adds what fits before the stop, and answers how much.
 fn add_part(held: &[u8], stop: usize, word: &mut Vec<u8>) -> Result<usize, AllocError>
-    requires { vec_len word.old ≤ stop }
-    ensures { Grown stop word.old.items word.new.items }
+    requires { vec_len word.old < stop }
+    ensures added { MatchResult result
+        (λ n. word.new.items ≡ word.old.items ++ take n held.now)
+        (λ _. word.new.items ≡ word.old.items) }
+    ensures short { vec_len word.new ≤ stop }
+    ensures within { IfOk result (λ n. n ≤ length held.now) }
+    ensures some { IfOk result (λ n. n ≡ 0 → length held.now ≡ 0) }
 {
     let n = held.len().min(stop - word.len());
     word.extend_from_slice(&held[..n])?;
@@ -25,13 +32,17 @@ fn add_part(held: &[u8], stop: usize, word: &mut Vec<u8>) -> Result<usize, Alloc
 }
 
 // Takes what the reader holds, but none beyond the stop, and breaks off where there is nothing more to take. An interrupted call takes nothing and is no error.
+#[tactic(auto, using(std::proofs::BufReadLemmas::Consumes_shown))]
 fn take_part<R: BufRead>(
     reader: &mut R,
     stop: usize,
     word: &mut Vec<u8>,
 ) -> Result<ControlFlow<()>, LineError>
-    requires { vec_len word.old ≤ stop }
-    ensures { Grown stop word.old.items word.new.items }
+    requires { vec_len word.old < stop }
+    ensures taken { Taken (R.remaining reader.old) (R.remaining reader.new) word.old.items word.new.items }
+    ensures short { vec_len word.new ≤ stop }
+    ensures end { IfOk result (λ go. ForBreak go
+        (λ _. OnSome (R.remaining reader.old) (IsAtEnd (R.remaining reader.new)))) }
 {
     let held = match reader.fill_buf() {
         Ok(held) => held,
@@ -46,7 +57,9 @@ fn take_part<R: BufRead>(
     })
 }
 
-fn interrupted(error: io::Error) -> Result<ControlFlow<()>, LineError> {
+fn interrupted(error: io::Error) -> Result<ControlFlow<()>, LineError>
+    ensures { IfOk result (λ go. IsContinueAnd go (λ _. ⊤)) }
+{
     if error.kind() == ErrorKind::Interrupted {
         Ok(ControlFlow::Continue(()))
     } else {
@@ -61,7 +74,10 @@ fn one_turn<R: BufRead>(
     word: &mut Vec<u8>,
 ) -> Result<ControlFlow<()>, LineError>
     requires { Wanted (task_of task.now) word.old.items }
-    ensures { Wanted (task_of task.now) word.new.items }
+    ensures wanted { Wanted (task_of task.now) word.new.items }
+    ensures taken { Taken (R.remaining reader.old) (R.remaining reader.new) word.old.items word.new.items }
+    ensures whole { IfOk result (λ go. ForBreak go (λ _. OnSome (R.remaining reader.old)
+        (Ended (task_of task.now) word.new.items (R.remaining reader.new)))) }
 {
     let stop = next_stop(task, word.as_slice());
     if stop <= word.len() {
@@ -76,9 +92,17 @@ pub fn read_word_from<R: BufRead>(
     task: &Task,
     word: &mut Vec<u8>,
 ) -> Result<(), LineError>
+    // At any reader.
     ensures wanted { Wanted (task_of task.now) word.new.items }
     ensures few { vec_len word.new ≤ 32775 }
     ensures law { OneWord (task_of task.now) }
+
+    // Where its bytes are known.
+    ensures taken { Consumes (R.remaining reader.old) (R.remaining reader.new) word.new.items }
+    ensures whole { OnOk result (OnSome (R.remaining reader.old)
+        (Ended (task_of task.now) word.new.items (R.remaining reader.new))) }
+    ensures exact { OnOk result (IfSome (R.remaining reader.old)
+        (λ xs. ExactWord (task_of task.now) xs word.new.items (R.remaining reader.new))) }
 {
     word.clear();
     for _turn in 0..TURNS {
