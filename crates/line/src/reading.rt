@@ -81,7 +81,7 @@ pub fn read_word_from<R: BufRead>(
     ensures law { OneWord (task_of task.now) }
 {
     word.clear();
-    for _turn in 0..TURNS {
+    for _ in 0..TURNS {
         if one_turn(reader, task, word)?.is_break() {
             return Ok(());
         }

@@ -16,7 +16,7 @@ pub returns-then-is_break-clause-law : goal.returns-then-is_break-clause-law
 returns-then-is_break-clause-law g c = one_word (task_of c.args.task.now) c.args.task.now.few_trains
 
 pub returns-clause-few : goal.returns-clause-few
-returns-clause-few g c = let word = c.loop-turn.word in omega (arith, word.ok.0, wanted_few (task_of c.args.task.now) c.args.task.now.few_trains (vec_items word) c.loop-turn.invariant)
+returns-clause-few g c = let word = c.loop.word in omega (arith, word.ok.0, wanted_few (task_of c.args.task.now) c.args.task.now.few_trains (vec_items word) c.loop.invariant)
 
 pub returns-clause-law : goal.returns-clause-law
 returns-clause-law g c = one_word (task_of c.args.task.now) c.args.task.now.few_trains

@@ -3,5 +3,5 @@ use Rattle.tasks.specs.Model.{task_of}
 use Rattle.line.specs.Wanted.{Wanted}
 use Rattle.line.proofs.reading.read_word_from.Given as goal
 
-abbrev pub invariant-loop-turn : goal.invariant-loop-turn
-invariant-loop-turn g l = Wanted (task_of l.task) (vec_items l.word)
+abbrev pub invariant-loop : goal.invariant-loop
+invariant-loop g l = Wanted (task_of l.task) (vec_items l.word)
