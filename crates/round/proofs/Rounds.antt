@@ -2,11 +2,11 @@
 use Rattle.std.proofs.Common.{◌≡◌, ℕ, ◌+◌, ◌*◌, ◌/◌, ◌<◌, ◌≤◌, Bool, true, false, ◌&&◌, T, leb, ltb, ◌⊎◌, None, Some, Option, Ok, Err, Result, get_or, List, [], ◌∷◌, ◌++◌, length, drop, unwrap_or, sym, refl, ap, ◌∙◌, inl, inr, arith}
 use denote.Ref.{Bor}
 use Rattle.std.specs.Bool.{then_some}
-use Rattle.std.specs.Option.{is_some, option_copied, option_map}
+use Rattle.std.specs.Option.{MatchOption, is_some, option_copied, option_map}
 use Rattle.std.specs.Result.{result_ok}
 use Rattle.std.specs.Simd.{first_chunks}
 use Rattle.std.proofs.lemmas.List.{length-drop, length-map, length-take}
-use Rattle.std.proofs.lemmas.Bool.{cases_Bool, ltb-true, ltb-false, cond-true, eq-eqb, ne_eqb, le-leb, lt-leb, and_parts, cond-false}
+use Rattle.std.proofs.lemmas.Bool.{cases_Bool, ltb-true, ltb-false, leb-false, cond-true, eq-eqb, ne_eqb, le-leb, lt-leb, and_parts, cond-false}
 use Rattle.paths.specs.Plan.{Pair, Task, at, pairs_in}
 use Rattle.paths.specs.Show.{pair_at}
 use Rattle.paths.proofs.Rows.{pairs-at}
@@ -18,7 +18,7 @@ use Rattle.tasks.specs.Reading.{got, refused, gives}
 use Rattle.tasks.specs.Task.{lowest, is_there, rises, rising}
 use Rattle.fitting.specs.Pairs.{asked_pair}
 use Rattle.sha256.specs.Sha256.{sha256}
-use Rattle.boxes.specs.Box.{Opening, text_of, boxes_of}
+use Rattle.boxes.specs.Box.{Opening, text_of, boxes_of, opens_box}
 use Rattle.boxes.proofs.Boxes.{length-boxes}
 use Rattle.boxes.proofs.Parts.{first_chunks_at}
 use Rattle.boxes.proofs.Digests.{length-sha256}
@@ -61,9 +61,13 @@ part-is bs chunks i (Some x) e l h g =
     let c = ap (λ xs. get_or xs i []) e ∙ first_chunks_at 32 (length bs / 32) bs i (omega arith) in
     rw (le-leb (32 * i + 32) (length bs) (omega arith)) (ap Some (g [] ∙ c))
 
-pub no_part : (b : Bool) (x : List ℕ) → None ≡ then_some b x → b ≡ false
+no_part : (b : Bool) (x : List ℕ) → None ≡ then_some b x → b ≡ false
 no_part true x e = cc
 no_part false x e = refl
+
+had_part : (b : Bool) (x d : List ℕ) → Some d ≡ then_some b x → d ≡ x
+had_part true x d e = cc
+had_part false x d e = cc
 
 pub not_same : (xs ys : List ℕ) → (length xs ≡ length ys → ⊥) → false ≡ same_row xs ys
 not_same xs ys h = go (cases_Bool (same_row xs ys))
@@ -73,11 +77,17 @@ not_same xs ys h = go (cases_Bool (same_row xs ys))
     go (inr e) = sym e
 
 -- a box that isn't there is not opened
-pub opens-none : (H : List ℕ → List ℕ) → ((x : List ℕ) → length (H x) ≡ 32) → (n : ℕ) (digests : List ℕ) (x : Opening) → length digests < 32 * x.train + 32 →
+opens-none : (H : List ℕ → List ℕ) → ((x : List ℕ) → length (H x) ≡ 32) → (n : ℕ) (digests : List ℕ) (x : Opening) → length digests < 32 * x.train + 32 →
     false ≡ opens_in H n digests x
 opens-none H h n digests x l =
     let short : length (part_of digests x.train) < 32 = simp (length-take, length-drop) (omega arith) in
     not_same (H (text_of n x)) (part_of digests x.train) (λ e. omega (arith, h (text_of n x), e, short))
+
+-- so a train's box is looked for, and then opened
+pub opens-part : (n : ℕ) (digests : List ℕ) (x : Opening) (part : Option (List ℕ)) (r : Bool) → part ≡ then_some (leb (32 * x.train + 32) (length digests)) (part_of digests x.train) →
+    MatchOption part (r ≡ false) (λ d. r ≡ opens_box sha256 d n x) → r ≡ opens_in sha256 n digests x
+opens-part n digests x None r e m = m ∙ opens-none sha256 length-sha256 n digests x (leb-false _ _ (no_part _ _ e))
+opens-part n digests x (Some d) r e m = m ∙ ap (λ y. opens_box sha256 y n x) (had_part _ _ d e)
 
 -- the trains of a pair that is there are there
 pub rising_in : (n : ℕ) (last : Pair) (xs : List Pair) → rising n last xs ≡ true → T (pairs_in n xs)

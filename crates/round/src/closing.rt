@@ -26,6 +26,7 @@ fn numbers(plan: &Plan, order: &Order) -> [u8; 1024]
     ensures { take (length (plan_of plan.now)) result ≡ held (plan_of plan.now) (order_of order.now) }
 {
     let mut numbers = [0; 1024];
+    // by place: with `numbers.iter_mut().zip(..)` it was tried, and the library says nothing of an array that an adapter of `iter_mut` has written to
     for (train, path) in plan.paths.iter().enumerate() {
         numbers[train] = number_of(order, *path);
     }
@@ -42,27 +43,18 @@ fn boxes_head(round: u32, trains: u16) -> [u8; 7]
     [Kind::Boxes.byte(), a, b, c, d, high, low]
 }
 
-// Writes the Boxes to the front, where there is a chance for each train, and room.
-fn put_boxes(plan: &Plan, round: u32, lot: &Lot, out: &mut [u8])
-    requires chances { length lot.now.chances.now ≡ 32 * length (plan_of plan.now) }
-    requires room { 7 + 32 * length (plan_of plan.now) ≤ length out.old }
-    ensures { out.new ≡ said_bytes (boxes_for sha256 round (plan_of plan.now) (lot_of lot.now)) ++ drop (7 + 32 * length (plan_of plan.now)) out.old }
-{
-    let count = plan.paths.len();
-    let numbers = numbers(plan, &lot.order);
-    out[..7].copy_from_slice(&boxes_head(round, count as u16));
-    close_all(round, &numbers[..count], lot.chances, &mut out[7..]);
-}
-
 // Writes the Boxes of the round to the front of `out`: a box for each train, with the number that the order gives its path. Where the chances are not 32 bytes
 // for each train, or there is no room, `out` stays as it is.
 pub fn write_boxes(plan: &Plan, round: u32, lot: &Lot, out: &mut [u8]) -> Option<usize>
     ensures { wrote_to result out.new ≡ write_boxes sha256 round (plan_of plan.now) (lot_of lot.now) out.old }
 {
-    let size = 7 + 32 * plan.paths.len();
+    let count = plan.paths.len();
+    let size = 7 + 32 * count;
     if lot.chances.len() + 7 != size || out.len() < size {
         return None;
     }
-    put_boxes(plan, round, lot, out);
+    let numbers = numbers(plan, &lot.order);
+    out[..7].copy_from_slice(&boxes_head(round, count as u16));
+    close_all(round, &numbers[..count], lot.chances, &mut out[7..]);
     Some(size)
 }

@@ -2,6 +2,7 @@
 ghost use Rattle.std.specs.Prelude.{◌≡◌, ◌<◌, ◌≤◌, OnOk, IfErr};
 ghost use Rattle.round.specs.Over.{over_of, content};
 
+use std::fmt;
 use tasks::{Fault, Rounds};
 
 // Content in all of so many rounds; not content in this round; a fault in this round; or a fault of the Task, before any round.
@@ -11,6 +12,18 @@ pub enum Outcome {
     NotContent(u32),
     Fault(Fault, u32),
     TaskFault(Fault),
+}
+
+// An outcome, as a line.
+impl fmt::Display for Outcome {
+    fn fmt<W: fmt::Write>(&self, f: &mut fmt::Formatter<W>) -> fmt::Result {
+        match self {
+            Outcome::Content(rounds) => write!(f, "content in all {rounds} rounds"),
+            Outcome::NotContent(round) => write!(f, "not content in round {round}"),
+            Outcome::Fault(fault, round) => write!(f, "{fault}, round {round}"),
+            Outcome::TaskFault(fault) => write!(f, "{fault}, before round 0"),
+        }
+    }
 }
 
 // The outcome, and the digest of the book's last closed round. Nothing can be sent from here.

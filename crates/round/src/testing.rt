@@ -19,18 +19,18 @@ use words::Word;
 fn opens_in(round: u32, digests: &[u8], opening: Opening) -> bool
     ensures { result ≡ opens_in sha256 round digests.now (opening_of opening) }
 {
-    match part_of(digests, opening.train) {
-        Some(digest) => opens(digest, round, opening),
-        None => false,
-    }
+    part_of(digests, opening.train).is_some_and(|digest| opens(digest, round, opening))
 }
 
+// The body of `are_two` of `paths`, of two paths where these are two numbers out of boxes. It stands here again, since the asker's test shares no step with the
+// pairing.
 fn content_with(paths: u8, first: u8, second: u8) -> bool
     ensures { result ≡ content_with paths first second }
 {
     first < paths && second < paths && first != second
 }
 
+// The pair with this number, and 0-0 where it isn't there, as the definition reads it. Both callers of the test have looked the pair up before.
 fn asked_pair(task: &Task, pair: u16) -> Pair
     ensures { pair_of result ≡ pair_at (task_of task.now) pair }
 {

@@ -6,4 +6,4 @@ use Rattle.round.proofs.closing.write_boxes.Goals as goal
 
 pub returns-then-lot-size : goal.returns-then-lot-size
 returns-then-lot-size c =
-    boxes-refused _ (plan_of c.args.plan.now) (order_of c.args.lot.now.order) c.args.lot.now.chances.now _ _ (c.len.ensures ∙ c.args.plan.now.paths.ok.0) c.then-lot-size.either
+    boxes-refused _ (plan_of c.args.plan.now) (order_of c.args.lot.now.order) c.args.lot.now.chances.now _ _ (c.len-count.ensures ∙ c.args.plan.now.paths.ok.0) c.then-lot-size.either

@@ -1,8 +1,6 @@
-use Rattle.std.proofs.lemmas.Bool.{leb-false}
-use Rattle.boxes.proofs.Digests.{length-sha256}
-use Rattle.sha256.specs.Sha256.{sha256}
-use Rattle.round.proofs.Rounds.{no_part, opens-none}
+use Rattle.boxes.specs.Model.{opening_of}
+use Rattle.round.proofs.Rounds.{opens-part}
 use Rattle.round.proofs.testing.opens_in.Goals as goal
 
-pub returns-in-None : goal.returns-in-None
-returns-in-None c = opens-none sha256 length-sha256 _ _ _ (leb-false _ _ (no_part _ _ c.in-None.ensures))
+pub returns : goal.returns
+returns c = opens-part c.args.round c.args.digests.now (opening_of c.args.opening) c.part_of.result c.is_some_and.result c.part_of.ensures c.is_some_and.ensures
