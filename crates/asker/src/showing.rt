@@ -1,4 +1,6 @@
 // A showing, as the asker goes through it.
+ghost use Rattle.std.specs.Prelude.{◌≡◌};
+
 use asking::{Awaiting, Ready, Tested};
 use command::Problem;
 use keeping::{Showing, Side, Stop, run};
@@ -41,6 +43,8 @@ impl Asker<'_> {
 impl Side for Asker<'_> {
     type Ready = Ready;
 
+    ghost so_far = { λ ready. ready.digest };
+
     // Boxes in, Ask out, Opened in, End out.
     fn round(&mut self, ready: Ready) -> Result<Ready, Stop> {
         self.showing.drawn.question(&ready.task)?;
@@ -52,7 +56,9 @@ impl Side for Asker<'_> {
         self.close_round(asked.test(word.as_slice()))
     }
 
-    fn digest(ready: &Ready) -> [u8; 32] {
+    fn digest(ready: &Ready) -> [u8; 32]
+        ensures { result ≡ ready.now.digest }
+    {
         ready.digest
     }
 }

@@ -1,4 +1,4 @@
-// Digests as text, by hand, since the crate `hex` makes a text on the heap and this goes into lines that are formatted anyway.
+// Digests as text, in lines that are formatted anyway. By hand: `hex::encode_to_slice` would fill a buffer, which then had to be read as a text, and both may fail.
 use std::fmt;
 
 // A digest, written as 64 digits.

@@ -1,5 +1,5 @@
 // A showing, as both sides go through it.
-ghost use Rattle.std.specs.Prelude.{◌≡◌, ◌^◌, ◌≤◌, IfOk, None, Ok, Err};
+ghost use Rattle.std.specs.Prelude.{◌≡◌, ℕ, ◌^◌, ◌≤◌, List, IfOk, IfErr, None, Ok, Err};
 ghost use Rattle.round.specs.Over.{outcome_of};
 ghost use Rattle.round.specs.declared.over.Over.{Over};
 ghost use Rattle.keeping.specs.Endings.{ending_of};
@@ -87,13 +87,19 @@ impl From<Problem> for Stop {
 pub trait Side {
     type Ready: Drop;
 
+    ghost so_far: { Self.Ready → List ℕ };
+
     fn round(&mut self, ready: Self::Ready) -> Result<Self::Ready, Stop>;
 
-    fn digest(ready: &Self::Ready) -> [u8; 32];
+    // Each side's method says this again, since the check doesn't hand the clause on to it.
+    fn digest(ready: &Self::Ready) -> [u8; 32]
+        ensures { result ≡ so_far ready.now };
 
-    // The digest so far, or the last one. No clause says so: a trait's clause isn't handed on to the method
-    // of an impl, and a function of its own would close a cycle of calls through the rounds.
-    fn digest_of(turn: &Result<Self::Ready, Over>) -> [u8; 32] {
+    // The digest so far, or the last one. A method of the trait, since the rounds call it: a function with a bound `Side` would close a cycle of calls with them.
+    fn digest_of(turn: &Result<Self::Ready, Over>) -> [u8; 32]
+        ensures so_far { IfOk turn.now (λ ready. result ≡ so_far ready) }
+        ensures last { IfErr turn.now (λ over. result ≡ over.digest) }
+    {
         match turn {
             Ok(ready) => Self::digest(ready),
             Err(over) => over.digest,
@@ -128,7 +134,7 @@ mod tests {
 
     #[test]
     fn opens_and_draws(rt: HostRuntime) -> Result<(), Fail> {
-        let task = read_task(rt.alloc(), &TASK).ok().ok_or("no task")?;
+        let task = read_task(rt.alloc(), &TASK)?;
         let options = Options {
             drawn: String::from_str(rt.alloc(), "/dev/zero")?,
             rounds: None,
@@ -136,11 +142,11 @@ mod tests {
             words: None,
             progress: false,
         };
-        let mut showing = Showing::open(&rt, options, 5).ok().ok_or("not opened")?;
+        let mut showing = Showing::open(&rt, options, 5)?;
         assert_eq!(rt; showing.rounds.count, 5);
-        showing.drawn.question(&task).ok().ok_or("no question")?;
+        showing.drawn.question(&task)?;
         assert_eq!(rt; showing.drawn.bytes().len(), 4);
-        showing.drawn.lot(&task).ok().ok_or("no lot")?;
+        showing.drawn.lot(&task)?;
         assert_eq!(rt; showing.drawn.bytes().len(), 100);
         Ok(())
     }

@@ -105,7 +105,7 @@ pub fn read_word_from<R: BufRead>(
         (λ xs. ExactWord (task_of task.now) xs word.new.items (R.remaining reader.new))) }
 {
     word.clear();
-    for _turn in 0..TURNS {
+    for _ in 0..TURNS {
         if one_turn(reader, task, word)?.is_break() {
             return Ok(());
         }

@@ -1,4 +1,6 @@
 // A showing, as the planner goes through it.
+ghost use Rattle.std.specs.Prelude.{◌≡◌};
+
 use command::Problem;
 use keeping::{Showing, Side, Stop, run};
 use planning::{Begun, Heard, Ready};
@@ -30,6 +32,8 @@ impl Planner<'_> {
 impl Side for Planner<'_> {
     type Ready = Ready;
 
+    ghost so_far = { λ ready. ready.digest };
+
     // Boxes out, Ask in, Opened out, End in.
     fn round(&mut self, ready: Ready) -> Result<Ready, Stop> {
         self.showing.drawn.lot(&ready.task)?;
@@ -43,7 +47,9 @@ impl Side for Planner<'_> {
         self.close_round(heard)
     }
 
-    fn digest(ready: &Ready) -> [u8; 32] {
+    fn digest(ready: &Ready) -> [u8; 32]
+        ensures { result ≡ ready.now.digest }
+    {
         ready.digest
     }
 }

@@ -16,19 +16,19 @@ pub returns-then-is_break-clause-law : goal.returns-then-is_break-clause-law
 returns-then-is_break-clause-law g c = one_word (task_of c.args.task.now) c.args.task.now.few_trains
 
 pub returns-then-is_break-clause-taken : goal.returns-then-is_break-clause-taken
-returns-then-is_break-clause-taken g c = taken_more _ _ _ _ _ c.loop-turn.invariant.taken c.one_turn.ensures.taken
+returns-then-is_break-clause-taken g c = taken_more _ _ _ _ _ c.loop.invariant.taken c.one_turn.ensures.taken
 
 pub returns-then-is_break-clause-whole : goal.returns-then-is_break-clause-whole
 returns-then-is_break-clause-whole g c =
     let e : c.in_ok-one_turn.field-0 ≡ Break tt = search rules in
-    known_still _ _ _ _ c.loop-turn.invariant.taken (c.in_ok-one_turn.ensures.whole tt e)
+    known_still _ _ _ _ c.loop.invariant.taken (c.in_ok-one_turn.ensures.whole tt e)
 
 pub returns-then-is_break-clause-exact : goal.returns-then-is_break-clause-exact
 returns-then-is_break-clause-exact g c =
     exact_word (task_of c.args.task.now) c.args.task.now.few_trains _ _ _ c.one_turn.ensures.wanted (returns-then-is_break-clause-taken g c) (returns-then-is_break-clause-whole g c)
 
 pub returns-clause-few : goal.returns-clause-few
-returns-clause-few g c = let word = c.loop-turn.word in omega (arith, word.ok.0, wanted_few (task_of c.args.task.now) c.args.task.now.few_trains (vec_items word) c.loop-turn.invariant.wanted)
+returns-clause-few g c = let word = c.loop.word in omega (arith, word.ok.0, wanted_few (task_of c.args.task.now) c.args.task.now.few_trains (vec_items word) c.loop.invariant.wanted)
 
 pub returns-clause-law : goal.returns-clause-law
 returns-clause-law g c = one_word (task_of c.args.task.now) c.args.task.now.few_trains
