@@ -1,12 +1,15 @@
 -- Bytes taken before a stop are wanted. Of a good word no more than the word is wanted, and the end is not before all of it was taken, unless the input ends within it.
-use Rattle.std.proofs.Common.{◌≡◌, ℕ, ◌<◌, ◌≤◌, ◌⊎◌, List, [], ◌∷◌, ◌++◌, length, take, true, None, Some, IfSome, OnSome, sym, refl, ap, subst, ◌∙◌, inl, inr, arith, append-nil, append_assoc, length-append, length-take}
+use Rattle.std.proofs.Common.{Vec, vec_len, vec_items, ◌≡◌, ℕ, ◌<◌, ◌≤◌, ◌⊎◌, List, [], ◌∷◌, ◌++◌, length, take, true, None, Some, IfSome, OnSome, sym, refl, ap, subst, ◌∙◌, inl, inr, arith, append-nil, append_assoc, length-append, length-take}
 use Rattle.std.proofs.Math.Seq.{take-append_seam}
 use Rattle.std.proofs.lemmas.Bool.{cases_lt}
 use Rattle.std.proofs.lemmas.List.{take_all, take-append-le, append_cancel_left}
 use Rattle.std.specs.declared.option.Option.{Option}
 use Rattle.std.specs.Io.KnownBytes.{Consumes}
 use Rattle.std.proofs.KnownBytes.{Consumes-trans}
+use Rattle.std.specs.declared.alloc.Global.{Global}
 use Rattle.paths.specs.Plan.{Task}
+use Rattle.tasks.specs.declared.task.Task.{Task as CodeTask}
+use Rattle.tasks.specs.Model.{task_of}
 use Rattle.words.specs.Said.{Said}
 use Rattle.words.specs.Writing.{said_bytes, is_said}
 use Rattle.words.specs.Stops.{next_stop}
@@ -101,3 +104,10 @@ pub known_still : (a b : Option (List ℕ)) (bs : List ℕ) (P : Type 0) → Con
 known_still None b bs P e h = tt
 known_still (Some xs) None bs P e h = absurd e
 known_still (Some xs) (Some ys) bs P e h = h
+
+-- of a task of the code
+pub one_word_of : (t : CodeTask) → OneWord (task_of t)
+one_word_of t = one_word (task_of t) t.few_trains
+
+pub few_of : (t : CodeTask) (word : Vec ℕ Global) → Wanted (task_of t) (vec_items word) → vec_len word ≤ 32775
+few_of t word w = omega (arith, word.ok.0, wanted_few (task_of t) t.few_trains (vec_items word) w)

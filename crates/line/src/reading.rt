@@ -87,6 +87,7 @@ fn one_turn<R: BufRead>(
 }
 
 // Reads one word, in place of what stood in `word`: to its end, to where it can no longer be good, or to the end of the input.
+#[tactic(auto, using(crate::proofs::Wants::one_word_of, crate::proofs::Wants::few_of))]
 pub fn read_word_from<R: BufRead>(
     reader: &mut R,
     task: &Task,

@@ -1,19 +1,7 @@
-use Rattle.std.proofs.Common.{◌≡◌, Break, vec_items, arith, rules}
+use Rattle.std.proofs.Common.{◌≡◌, Break, rules}
 use Rattle.tasks.specs.Model.{task_of}
-use Rattle.line.proofs.Wants.{one_word, wanted_few, taken_more, known_still, exact_word}
+use Rattle.line.proofs.Wants.{few_of, taken_more, known_still, exact_word}
 use Rattle.line.proofs.reading.read_word_from.Goals as goal
-
-pub returns-in_err-one_turn-clause-few : goal.returns-in_err-one_turn-clause-few
-returns-in_err-one_turn-clause-few g c = let word = c.one_turn.new.word in omega (arith, word.ok.0, wanted_few (task_of c.args.task.now) c.args.task.now.few_trains (vec_items word) c.one_turn.ensures.wanted)
-
-pub returns-in_err-one_turn-clause-law : goal.returns-in_err-one_turn-clause-law
-returns-in_err-one_turn-clause-law g c = one_word (task_of c.args.task.now) c.args.task.now.few_trains
-
-pub returns-then-is_break-clause-few : goal.returns-then-is_break-clause-few
-returns-then-is_break-clause-few g c = let word = c.one_turn.new.word in omega (arith, word.ok.0, wanted_few (task_of c.args.task.now) c.args.task.now.few_trains (vec_items word) c.one_turn.ensures.wanted)
-
-pub returns-then-is_break-clause-law : goal.returns-then-is_break-clause-law
-returns-then-is_break-clause-law g c = one_word (task_of c.args.task.now) c.args.task.now.few_trains
 
 pub returns-then-is_break-clause-taken : goal.returns-then-is_break-clause-taken
 returns-then-is_break-clause-taken g c = taken_more _ _ _ _ _ c.loop.invariant.taken c.one_turn.ensures.taken
@@ -27,8 +15,8 @@ pub returns-then-is_break-clause-exact : goal.returns-then-is_break-clause-exact
 returns-then-is_break-clause-exact g c =
     exact_word (task_of c.args.task.now) c.args.task.now.few_trains _ _ _ c.one_turn.ensures.wanted (returns-then-is_break-clause-taken g c) (returns-then-is_break-clause-whole g c)
 
-pub returns-clause-few : goal.returns-clause-few
-returns-clause-few g c = let word = c.loop.word in omega (arith, word.ok.0, wanted_few (task_of c.args.task.now) c.args.task.now.few_trains (vec_items word) c.loop.invariant.wanted)
+pub returns-then-is_break-clause-few : goal.returns-then-is_break-clause-few
+returns-then-is_break-clause-few g c = few_of c.args.task.now c.one_turn.new.word c.one_turn.ensures.wanted
 
-pub returns-clause-law : goal.returns-clause-law
-returns-clause-law g c = one_word (task_of c.args.task.now) c.args.task.now.few_trains
+pub returns-clause-few : goal.returns-clause-few
+returns-clause-few g c = few_of c.args.task.now c.loop.word c.loop.invariant.wanted
