@@ -1,4 +1,4 @@
-// The asker before a round.
+// The asker before a round. The planner's state has these fields too: a struct for what the two share would stand between each step and what it reads.
 ghost use Rattle.std.specs.Prelude.{◌<◌};
 
 use tasks::{Rounds, Task};

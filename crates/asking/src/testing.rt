@@ -27,7 +27,7 @@ impl Ready {
         matches!(read_word(&self.task, word), Ok(Word::Opened(said, _, _)) if said == self.round)
     }
 
-    // The bytes of an Opened of this round, whether it is good or not.
+    // The bytes of an Opened of this round, whether it is good or not. The word is read for itself here and in the test: what was read borrows it, and is gone then.
     fn opened_in(&self, word: &[u8]) -> Option<[u8; 75]>
         ensures { counted result ≡ (if is_opened_of self.now.round (read_word (task_of self.now.task) word.now) then word.now else []) }
     {

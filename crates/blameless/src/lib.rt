@@ -1,4 +1,5 @@
-// An honest planner can't be blamed: what the judge tells of the planner's runs, whatever the asker does. The definitions are in specs/, the proofs in proofs/.
+// An honest planner can't be blamed: what the judge tells of the planner's runs, whatever the asker does. The definitions are in specs/, the proofs in proofs/. A
+// promise is the contract of a function with no code, so that it is checked as any other.
 #![tactic(auto)]
 
 ghost use Rattle.std.specs.Prelude.{ℕ, List};

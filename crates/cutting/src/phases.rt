@@ -1,4 +1,4 @@
-// Which word of a round is awaited, and what came of the round so far. Words are kept as they came.
+// Which word of a round is awaited, and what came of the round so far. Words are kept as they came, in the memory that they were read into.
 ghost use Rattle.std.specs.Prelude.{◌≡◌};
 ghost use Rattle.cutting.specs.Cutting.{between};
 ghost use Rattle.cutting.specs.Phases.{awaits_of};
@@ -30,7 +30,7 @@ impl Awaits {
     }
 }
 
-// A round that is closed.
+// A round that is closed. An End with 1 comes behind an Opened alone; the two stand side by side as in the definition, which cuts words by their form.
 #[derive(Drop)]
 pub struct Round {
     pub asked: Asked,
@@ -39,7 +39,7 @@ pub struct Round {
     pub content: bool,
 }
 
-// What a word leads to. A round that is closed is no failure, so this is no Result.
+// What a word leads to. A round that is closed is no failure, so this is no Result; and no ControlFlow, since neither case is the end.
 #[derive(Drop)]
 pub enum Heard {
     Waits(Awaits),

@@ -1,4 +1,5 @@
-// How many rounds are enough, and that numbers, orders, questions and coins are drawn without favour: the definitions are in specs/, the proofs in proofs/.
+// How many rounds are enough, and that numbers, orders, questions and coins are drawn without favour: the definitions are in specs/, the proofs in proofs/. A promise is the contract
+// of a function with no code, so that it is checked as any other.
 #![tactic(auto)]
 
 ghost use Rattle.std.specs.Prelude.{◌≡◌, ◌-◌, ◌*◌, ◌^◌, ◌<◌, ◌≤◌};

@@ -1,4 +1,5 @@
-// Planner and asker joined by a faithful line, completeness against any asker, and the worked cases: the definitions are in specs/, the proofs in proofs/.
+// Planner and asker joined by a faithful line, completeness against any asker, and the worked cases: the definitions are in specs/, the proofs in proofs/. A promise is the contract
+// of a function with no code, so that it is checked as any other.
 #![tactic(auto)]
 
 ghost use Rattle.std.specs.Prelude.{◌≡◌, ℕ, List};

@@ -8,7 +8,7 @@ use cutting::Awaits;
 use tasks::{Plan, Task};
 
 // `round` is the number of the round that is awaited, and how many are closed; `digest` is that of the book, and `content` and `redrawn` are the first findings.
-// `memory` is for the Boxes that are drawn again; between words it means nothing.
+// `redrawn` says whether there is a plan, too: it is what is told at the end, and the plan stays as it is. `memory` is for the Boxes that are drawn again; between words it means nothing.
 #[derive(Drop)]
 pub struct Judge {
     pub task: Task,

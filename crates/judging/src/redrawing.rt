@@ -38,7 +38,7 @@ fn other_box(digests: &[u8], given: &[u8], train: u16) -> bool
     part(digests, at, 32) != part(given, at, 32)
 }
 
-// The first of so many trains whose box is another.
+// The first of so many trains whose box is another. By number, since boxes that are missing are others too.
 fn first_other(trains: u16, digests: &[u8], given: &[u8]) -> Option<u16>
     ensures { result ≡ first_from (other_box digests.now given.now) 0 trains }
 {
@@ -73,6 +73,7 @@ impl Given<'_> {
             return None;
         }
         let Ok(pair) = pair_at(task, round.asked.pair) else {
+            // an Ask for no pair is told as train 0, as the definition says
             return Some(0);
         };
         let given = opened_word(task, self.plan, number, &self.lot, round.asked.pair);

@@ -2,7 +2,8 @@
 use std::alloc::AllocError;
 use std::io;
 
-// The conversions are written out: nothing prints this error, so a derive of `thiserror` would ask for messages that nobody reads.
+// An enum, and not `io::Error`, whose kind each caller would have to look at for want of memory. The conversions are written out: nothing prints this error, so a
+// derive of `thiserror` would ask for messages that nobody reads.
 #[derive(Drop)]
 pub enum LineError {
     Stream(io::Error),

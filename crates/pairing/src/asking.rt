@@ -1,4 +1,4 @@
-// The word by which a pair is asked for.
+// The word by which a pair is asked for, read here once more: this crate stands on no box, and so not on `words`.
 ghost use Rattle.std.specs.Prelude.{◌≡◌};
 ghost use Rattle.tasks.specs.Model.{task_of};
 ghost use Rattle.tasks.specs.Reading.{gives};

@@ -43,6 +43,7 @@ fn put_all(pairs: &mut Vec<Pair>, more: &[Pair]) -> Result<(), Fault>
     Ok(())
 }
 
+// Pairs are added to a list that is lent: a struct around this one list would say no more.
 // The j-th of the trains from `from` on, with each before it.
 fn add_with_each(more: &mut Vec<Pair>, from: u16, j: u8) -> Result<(), AllocError>
     requires { from + j ≤ 1024 }

@@ -26,7 +26,8 @@ impl fmt::Display for Outcome {
     }
 }
 
-// The outcome, and the digest of the book's last closed round. Nothing can be sent from here.
+// The outcome, and the digest of the book's last closed round. Nothing can be sent from here. A step hands it on as an error, so that `?` and `map_err` end a side
+// wherever it stops; a showing that went well ends so too.
 #[derive(Clone, Copy, Debug, PartialEq, Eq)]
 pub struct Over {
     pub outcome: Outcome,

@@ -1,4 +1,5 @@
-// The planner's secrecy over whole runs of its steps, against any asker: the definitions are in specs/, the proofs in proofs/.
+// The planner's secrecy over whole runs of its steps, against any asker: the definitions are in specs/, the proofs in proofs/. A promise is the contract
+// of a function with no code, so that it is checked as any other.
 #![tactic(auto)]
 
 ghost use Rattle.std.specs.Prelude.{◌≡◌, ℕ, List, length};

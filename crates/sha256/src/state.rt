@@ -1,4 +1,4 @@
-// The eight words of a hash value, and of the working variables of a round.
+// The eight words of a hash value, and of the working variables of a round, by the names that the standard has for them.
 #[derive(Clone, Copy)]
 pub struct State<W> {
     pub a: W,

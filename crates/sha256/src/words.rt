@@ -4,7 +4,7 @@ ghost use Rattle.std.specs.Mem.{type_size};
 ghost use Rattle.std.proofs.Common.{rules};
 ghost use Rattle.sha256.specs.Sha256.{◌⊞◌, ◌⊕◌, NOT, SHR, ROTR, Ch, Maj, Σ0, Σ1, σ0, σ1, K as constants};
 
-// A word, or one of each of several messages side by side, each in its lane.
+// A word, or one of each of several messages side by side, each in its lane. Methods of its own, and no operators of std: their laws are of lanes.
 pub trait Words: Copy {
     // how many lanes there are, and the word in lane j
     ghost lanes: { ℕ };

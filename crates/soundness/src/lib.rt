@@ -1,4 +1,5 @@
-// Soundness of the asker's steps over whole runs, against any planner: the definitions are in specs/, the proofs in proofs/.
+// Soundness of the asker's steps over whole runs, against any planner: the definitions are in specs/, the proofs in proofs/. A promise is the contract
+// of a function with no code, so that it is checked as any other.
 #![tactic(auto)]
 
 ghost use Rattle.soundness.specs.Examples.{Examples};
