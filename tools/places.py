@@ -131,7 +131,8 @@ def point5(all):
     facts = collections.defaultdict(list)
     for f in all:
         for kind, fact in f.clauses:
-            facts[(f.crate, kind, fact)].append(f.name)
+            if fact:  # a clause of more lines than one is left out
+                facts[(f.crate, kind, fact)].append(f.name)
     report("5a", "a clause in three or more functions of a crate", (f"{c}: {k} {{ {x} }}: " + ", ".join(n) for (c, k, x), n in facts.items() if len(n) > 2))
     by_crate = collections.defaultdict(list)
     for f in all:

@@ -51,6 +51,7 @@ impl Plans {
         if coin.len() != self.coin_length() {
             return Err(Fault::Shape);
         }
+        // looked up here too, since a pair that isn't there is told before bytes that are no order
         pair_at(&self.task, question)?;
         let order = Order::new(&coin[..self.task.paths as usize]).ok_or(Fault::BadNumber)?;
         self.pair_order(question, &order)

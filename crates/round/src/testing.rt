@@ -30,7 +30,8 @@ fn content_with(paths: u8, first: u8, second: u8) -> bool
     first < paths && second < paths && first != second
 }
 
-// The pair with this number, and 0-0 where it isn't there, as the definition reads it. Both callers of the test have looked the pair up before.
+// The pair with this number, and 0-0 where it isn't there, as the definition reads it. The asker draws it among those that are there, and
+// the judge looks it up before.
 fn asked_pair(task: &Task, pair: u16) -> Pair
     ensures { pair_of result ≡ pair_at (task_of task.now) pair }
 {
