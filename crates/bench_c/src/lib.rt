@@ -60,7 +60,7 @@ pub extern "C" fn bench_digests(texts: &Texts, out: &mut Digests)
     out.digests = digests(&texts.texts);
 }
 
-// The boxes of all trains of a round.
+// The boxes of all trains of a round, or false where they don't fit: C takes a bool.
 #[unsafe(no_mangle)]
 pub extern "C" fn bench_boxes(round: u32, numbers: &[u8], chances: &[u8], out: &mut [u8]) -> bool
     ensures answer { result ≡ closable (length numbers.now) (length chances.now) (length out.old) }

@@ -6,7 +6,7 @@ ghost use Rattle.boxes.specs.Box.{box_text, boxes_of};
 use super::closing::text;
 use lanes::digests;
 
-// The trains from `first` on, one for each number; the chances stand one after the other.
+// The trains from `first` on, one for each number; the chances stand one after the other, side by side with the numbers, as C hands them in.
 #[derive(Clone, Copy)]
 pub(super) struct Group<'a> {
     pub round: u32,

@@ -132,6 +132,7 @@ fn collect_pairs(heap: Global, bytes: &[u8]) -> Result<Vec<Pair>, AllocError>
     units.iter().map(|unit| pair_in(*unit)).collect(heap)
 }
 
+// Task and bytes one by one: a plan may be read for any task, and nothing ties the two.
 // What stands after a path.
 fn check_path(paths: u8, bytes: &[u8]) -> Result<&[u8], Fault>
     ensures path { gives (λ _. tt) result ≡ read_path paths tt bytes.now }
