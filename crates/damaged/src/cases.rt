@@ -176,22 +176,10 @@ impl Table<'_> {
     }
 
     fn show_cuts(&self, name: &str, bytes: &[u8]) -> anyhow::Result<()> {
-        let mut ones = 0u32;
-        let mut same = 0u32;
         for n in 0..bytes.len() {
-            let whole = self.told(&bytes[..n])?;
-            let part = self.streamed(&bytes[..n])?;
-            if whole.as_str() == "fault 1" {
-                ones = ones.saturating_add(1);
-            }
-            if part.as_slice() == &bytes[..n] {
-                same = same.saturating_add(1);
-            }
+            let cut = format!(in self.rt.alloc(); "{name}, cut at {n}")?;
+            self.show(cut.as_str(), &bytes[..n])?;
         }
-        println!(self.rt;
-            "{name}, cut at each of {} lengths: fault 1 at {ones}; stream: the same at {same}",
-            bytes.len()
-        )?;
         Ok(())
     }
 
