@@ -2,7 +2,8 @@
 ghost use Rattle.std.specs.Prelude.{◌≡◌, [], drop, if◌then◌else◌};
 ghost use Rattle.sha256.specs.Sha256.{sha256};
 ghost use Rattle.tasks.specs.Model.{task_of};
-ghost use Rattle.tasks.specs.Reading.{looks, and_then};
+ghost use Rattle.tasks.specs.Reading.{gives, looks, and_then};
+ghost use Rattle.words.specs.Model.{said};
 ghost use Rattle.words.specs.Reading.{read_word};
 ghost use Rattle.round.specs.Over.{leads};
 ghost use Rattle.round.specs.Round.{test_opened};
@@ -21,17 +22,18 @@ use tasks::Fault;
 use words::{Word, behind_head, end_bytes, read_word};
 
 impl Ready {
-    fn is_opened(&self, word: &[u8]) -> bool
-        ensures { result ≡ is_opened_of self.now.round (read_word (task_of self.now.task) word.now) }
+    fn is_opened(&self, read: Result<Word, Fault>) -> bool
+        ensures { result ≡ is_opened_of self.now.round (gives said read.entry) }
     {
-        matches!(read_word(&self.task, word), Ok(Word::Opened(said, _, _)) if said == self.round)
+        matches!(read, Ok(Word::Opened(said, _, _)) if said == self.round)
     }
 
-    // The bytes of an Opened of this round, whether it is good or not. The word is read for itself here and in the test: what was read borrows it, and is gone then.
-    fn opened_in(&self, word: &[u8]) -> Option<[u8; 75]>
+    // The bytes of an Opened of this round, whether it is good or not, where this was read of them.
+    fn opened_in(&self, read: Result<Word, Fault>, word: &[u8]) -> Option<[u8; 75]>
+        requires { gives said read ≡ read_word (task_of self.now.task) word.now }
         ensures { counted result ≡ (if is_opened_of self.now.round (read_word (task_of self.now.task) word.now) then word.now else []) }
     {
-        if !self.is_opened(word) {
+        if !self.is_opened(read) {
             return None;
         }
         word.try_into().ok()
@@ -39,11 +41,11 @@ impl Ready {
 }
 
 impl Asked {
-    fn test_answer(&self, word: &[u8]) -> Result<(), Fault>
-        ensures { looks result ≡ and_then (read_word (task_of self.now.drawn.ready.task) word.now) (test_opened sha256 (task_of self.now.drawn.ready.task) self.now.drawn.ready.round self.now.drawn.pair (drop 7 self.now.boxes.items)) }
+    fn test_answer(&self, read: Result<Word, Fault>) -> Result<(), Fault>
+        ensures { looks result ≡ and_then (gives said read.entry) (test_opened sha256 (task_of self.now.drawn.ready.task) self.now.drawn.ready.round self.now.drawn.pair (drop 7 self.now.boxes.items)) }
     {
         let Drawn { ready, pair } = &self.drawn;
-        let word = read_word(&ready.task, word)?;
+        let word = read?;
         test_opened(
             &ready.task,
             ready.round,
@@ -59,8 +61,9 @@ impl Asked {
         ensures exact { Exact sha256 (task_of self.drawn.ready.task) }
     {
         let ready = &self.drawn.ready;
-        let test = self.test_answer(word);
-        let opened = ready.opened_in(word);
+        let read = read_word(&ready.task, word);
+        let test = self.test_answer(read);
+        let opened = ready.opened_in(read, word);
         let end = end_bytes(ready.round, test.is_ok());
         Tested {
             asked: self,

@@ -62,7 +62,10 @@ impl Input {
 #[cfg(test)]
 mod tests {
     use super::Input;
+    use crate::problem::Problem;
+    use std::io::{Error, ErrorKind};
     use std::test::Fail;
+    use tasks::Fault;
 
     // Opens a file without end, and reads four bytes of it and then two.
     #[test]
@@ -75,6 +78,18 @@ mod tests {
         assert_eq!(rt; first, 4);
         assert_eq!(rt; second, 2);
         assert!(rt; bytes.as_slice() == [0; 6].as_slice());
+        Ok(())
+    }
+
+    // An error of the stream, and a fault of a round, as they are told of that file.
+    #[test]
+    fn tells_its_name(rt: HostRuntime) -> Result<(), Fail> {
+        let name = String::from_str(rt.alloc(), "/dev/zero")?;
+        let input = Input::open(&rt, name)?;
+        let error = input.told(Problem::Stream(Error::from(ErrorKind::UnexpectedEof)));
+        let fault = input.in_round(Fault::Shape, 7);
+        assert!(rt; matches!(error, Problem::File(..)));
+        assert!(rt; matches!(fault, Problem::InRound(Fault::Shape, 7, _)));
         Ok(())
     }
 }

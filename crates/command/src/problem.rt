@@ -34,7 +34,7 @@ pub enum Problem {
     Memory,
 }
 
-// The conversions that choose the case stand by hand.
+// These stand by hand: the last two choose the case, and `#[from(alloc)]` would put an AllocError into the case Memory, which holds nothing.
 impl From<AllocError> for Problem {
     fn from(_error: AllocError) -> Problem {
         Problem::Memory

@@ -1,4 +1,4 @@
-// The judge between two words.
+// The judge between two words. Task, round and digest are as in both sides' states: the judge stands on neither's code.
 ghost use Rattle.std.specs.Prelude.{◌≡◌, ◌+◌, ◌*◌, ◌^◌, ◌≤◌, true, vec_len};
 ghost use Rattle.tasks.specs.Model.{task_of};
 ghost use Rattle.judging.specs.Plans.{plan_in, fits_if_any};

@@ -135,7 +135,7 @@ impl Judge {
         }
     }
 
-    // Told apart from `end`, whose laws would have to be shown at each of these answers.
+    // Told apart from `end`, whose seven laws would have to be shown at each of these answers.
     fn tell(&self, digest: [u8; 32]) -> Verdict
         ensures { verdict_of result ≡ finish (judge_of self.now) digest }
     {

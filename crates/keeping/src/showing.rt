@@ -64,7 +64,8 @@ impl<'a> Showing<'a> {
     }
 }
 
-// Why a side doesn't go on to another round. An enum of its own, with two conversions, so that `?` takes an end of either kind.
+// Why a side doesn't go on to another round. An enum of its own, with two conversions, so that `?` takes an end of either kind. They are written
+// out: nothing prints a Stop, so a derive of `thiserror` would ask for texts that nobody reads.
 #[derive(Drop)]
 pub enum Stop {
     Over(Over),

@@ -1,4 +1,5 @@
-// The word by which a pair is asked for, read here once more: this crate stands on no box, and so not on `words`.
+// The word by which a pair is asked for, read here once more: this crate stands on no box, and so not on `words`. It is taken
+// apart by `let .. else`, a form that the project keeps in readers.
 ghost use Rattle.std.specs.Prelude.{◌≡◌};
 ghost use Rattle.tasks.specs.Model.{task_of};
 ghost use Rattle.tasks.specs.Reading.{gives};

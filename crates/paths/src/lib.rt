@@ -19,7 +19,7 @@ pub use partners::{Partners, TwoPaths};
 
 pub const MOST_PAIRS: u16 = 4096;
 
-// The most pairs that a task may have.
+// The most pairs that a task may have, told as a promise; code takes the constant.
 pub fn most_pairs() -> u32
     ensures { result ≡ 4096 }
 {

@@ -1,4 +1,4 @@
-// The planner before a round.
+// The planner before a round. The fields that the asker's state has too are not a struct of their own: see there.
 ghost use Rattle.std.specs.Prelude.{◌≡◌, ◌+◌, ◌*◌, ◌<◌, true, vec_len};
 ghost use Rattle.paths.specs.Plan.{fits};
 ghost use Rattle.tasks.specs.Model.{task_of, plan_of};

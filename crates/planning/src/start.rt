@@ -31,6 +31,7 @@ fn begin(heap: Global, task: Task, plan: Plan, rounds: Rounds) -> Result<Begun, 
     let boxes = Vec::from_elem(heap, 0, 7 + size)?;
     let chances = Vec::from_elem(heap, 0, size)?;
     let digest = book::start(&word);
+    // by hand, and no `map`: that this is one of the rounds is a fact of the state, which a closure would not know
     if let Err(over) = go_on(rounds, 0, digest) {
         let next = Err(over);
         return Ok(Begun { word, next });

@@ -26,7 +26,7 @@ fn numbers(plan: &Plan, order: &Order) -> [u8; 1024]
     ensures { take (length (plan_of plan.now)) result ≡ held (plan_of plan.now) (order_of order.now) }
 {
     let mut numbers = [0; 1024];
-    // by place: with `numbers.iter_mut().zip(..)` it was tried, and the library says nothing of an array that an adapter of `iter_mut` has written to
+    // by place: with `numbers.iter_mut().zip(..)` it was tried, and the library says nothing of an array written through a zip of `iter_mut`
     for (train, path) in plan.paths.iter().enumerate() {
         numbers[train] = number_of(order, *path);
     }

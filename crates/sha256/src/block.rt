@@ -23,7 +23,7 @@ fn words(block: &[u8; 64]) -> [u32; 64]
 {
     let (quads, _) = block.as_chunks::<4>();
     let mut w = [0; 64];
-    // by place, since the library says nothing of an array behind an adapter of `iter_mut`
+    // by place, since the library says nothing of an array written through a zip of `iter_mut`
     for (t, quad) in quads.iter().enumerate() {
         w[t] = u32::from_be_bytes(*quad);
     }

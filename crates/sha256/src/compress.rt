@@ -45,7 +45,7 @@ fn put_next<W: Words>(w: &mut [W; 64], n: usize)
     w[n + 16] = x;
 }
 
-// Four words more, so that each is still at hand for those after it.
+// Four words more at a turn, for the same reason as eight rounds below: each word is still at hand for those after it.
 fn put_four<W: Words>(w: &mut [W; 64], n: usize)
     requires { n + 4 ≤ 48 }
     ensures { (j : ℕ) (b : List ℕ) → j < W.lanes → take (n + 16) (column W.lane w.old j) ≡ scheduled b n → take (n + 4 + 16) (column W.lane w.new j) ≡ scheduled b (n + 4) }
@@ -88,7 +88,7 @@ fn step<W: Words>(s: State<W>, k: u32, w: W) -> State<W>
     }
 }
 
-// Eight rounds from round t on, so that the compiler renames the words and moves none.
+// Eight rounds from round t on, so that the compiler renames the words and moves none: a loop of one round at a turn was tried, and was a third slower.
 #[tactic(auto, using(crate::proofs::Lanes::lane_more))]
 fn eight_steps<W: Words>(s: State<W>, w: &[W; 64], t: usize) -> State<W>
     requires { t + 8 ≤ 64 }

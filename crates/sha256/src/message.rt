@@ -52,7 +52,7 @@ fn bytes(words: [u32; 8]) -> [u8; 32]
     ensures { result ≡ flat_map (bytes_of 4) words }
 {
     let mut out = [0; 32];
-    // by place, as the words of a block
+    // by place, as in block.rt
     for (i, word) in words.iter().enumerate() {
         out[4 * i..4 * i + 4].copy_from_slice(&word.to_be_bytes());
     }

@@ -23,7 +23,7 @@ impl Kind {
     }
 }
 
-// A byte that is no kind's is fault 1.
+// A byte that is no kind's is fault 1. The table is written out, as the definition is: nothing makes a case of a number.
 impl TryFrom<u8> for Kind {
     type Error = Fault;
 

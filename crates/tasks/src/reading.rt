@@ -132,7 +132,6 @@ fn collect_pairs(heap: Global, bytes: &[u8]) -> Result<Vec<Pair>, AllocError>
     units.iter().map(|unit| pair_in(*unit)).collect(heap)
 }
 
-// Task and bytes one by one: a plan may be read for any task, and nothing ties the two.
 // What stands after a path.
 fn check_path(paths: u8, bytes: &[u8]) -> Result<&[u8], Fault>
     ensures path { gives (λ _. tt) result ≡ read_path paths tt bytes.now }
@@ -147,6 +146,7 @@ fn check_path(paths: u8, bytes: &[u8]) -> Result<&[u8], Fault>
     Ok(rest)
 }
 
+// Task and bytes one by one, here and in the readers of plans: a plan may be read for any task, and nothing ties the two.
 fn check_paths(task: &Task, bytes: &[u8]) -> Result<(), Fault>
     ensures { looks result ≡ read_paths task.now.paths task.now.trains bytes.now }
 {

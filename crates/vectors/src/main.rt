@@ -30,7 +30,8 @@ fn million() -> [u8; 32] {
     h.finish()
 }
 
-// A message in three parts, the first of one byte where there is one. `bench_c` has such a function for C.
+// A message in three parts, the first of one byte where there is one. `bench_c` has such a function for C, in a static
+// library on which no program can stand.
 fn in_parts(m: &[u8]) -> [u8; 32] {
     let first = m.len().min(1);
     let second = m.len().min(60);

@@ -8,7 +8,8 @@ ghost use Rattle.words.specs.Said.{ask, end};
 use super::word::Word;
 use tasks::Fault;
 
-// What was read is taken apart by `let .. else`, a form that the project keeps.
+// What was read is taken apart by `let .. else`, a form that the project keeps. Three methods, one for each kind, since each takes its own value out of its own case.
+// Of an Opened there is none: its train is looked at before its round, and what isn't one may be an End.
 impl Word<'_> {
     // The Boxes of this round.
     pub fn boxes_of(self, round: u32) -> Result<(), Fault>

@@ -1,4 +1,5 @@
-// Words read from bytes, each by the form of its kind.
+// Words read from bytes, each by the form of its kind. Task and bytes come one by one, since nothing ties the two; and bytes are taken apart by `let .. else`, a form
+// that the project keeps in readers.
 ghost use Rattle.std.specs.Prelude.{◌≡◌, drop};
 ghost use Rattle.boxes.specs.Model.{opening_of};
 ghost use Rattle.tasks.specs.Model.{task_of};

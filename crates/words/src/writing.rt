@@ -68,22 +68,27 @@ fn front(kind: Kind, round: u32) -> [u8; 5]
     [kind.byte(), a, b, c, d]
 }
 
+// The same, and a number of two bytes.
+fn numbered(kind: Kind, round: u32, number: u16) -> [u8; 7]
+    ensures { result ≡ (kind_byte kind ∷ long_bytes round) ++ word_bytes number }
+{
+    let [kind, a, b, c, d] = front(kind, round);
+    let [high, low] = number.to_be_bytes();
+    [kind, a, b, c, d, high, low]
+}
+
 // What stands before the digests in the Boxes of a round: its number, and that of the trains.
 pub fn boxes_head(round: u32, trains: u16) -> [u8; 7]
     ensures { result ≡ boxes_head round trains }
 {
-    let [kind, a, b, c, d] = front(Kind::Boxes, round);
-    let [high, low] = trains.to_be_bytes();
-    [kind, a, b, c, d, high, low]
+    numbered(Kind::Boxes, round, trains)
 }
 
 // The Ask of a round for a pair.
 pub fn ask_bytes(round: u32, pair: u16) -> [u8; 7]
     ensures { result ≡ said_bytes (ask round pair) }
 {
-    let [kind, a, b, c, d] = front(Kind::Ask, round);
-    let [high, low] = pair.to_be_bytes();
-    [kind, a, b, c, d, high, low]
+    numbered(Kind::Ask, round, pair)
 }
 
 fn opening_bytes(opening: Opening) -> [u8; 35]
@@ -112,7 +117,7 @@ pub fn end_bytes(round: u32, content: bool) -> [u8; 6]
     ensures { result ≡ said_bytes (end round content) }
 {
     let [kind, a, b, c, d] = front(Kind::End, round);
-    [kind, a, b, c, d, content as u8]
+    [kind, a, b, c, d, u8::from(content)]
 }
 
 // The bytes of a word at the front of the memory, and how many; where there is no room nothing is written.
