@@ -33,11 +33,11 @@ impl Program for TheAsker {
         let awaiting = start_asker(rt.alloc(), task, showing.rounds)?;
         let mut asker = Asker {
             showing,
-            last: None,
+            late: Ok(()),
         };
         let over = asker.all_rounds(awaiting)?;
         let ending = asker.showing.end(over);
-        asker.send_last()?;
+        asker.late?;
         Ok(ending)
     }
 }

@@ -9,8 +9,8 @@ use round::Over;
 #[derive(Drop)]
 pub struct Asker<'a> {
     pub showing: Showing<'a>,
-    // The End of a round whose answer was refused. It is sent last, since a planner that is gone makes the writer end without a word.
-    pub last: Option<[u8; 6]>,
+    // What went wrong once an answer was refused. It is told after the refusal.
+    pub late: Result<(), Problem>,
 }
 
 impl Asker<'_> {
@@ -22,21 +22,28 @@ impl Asker<'_> {
         run(self, first)
     }
 
+    // The End is sent first, whatever the records do.
     fn close_round(&mut self, tested: Tested) -> Result<Ready, Stop> {
-        match tested.test {
-            Ok(()) => self.showing.line.send(&tested.end)?,
-            Err(_) => self.last = Some(tested.end),
+        let sent = self.showing.line.send(&tested.end);
+        if tested.test.is_ok() {
+            sent?;
+            let (next, kept) = self.keep(tested);
+            kept?;
+            return Ok(next?);
         }
-        let round = tested.asked.drawn.ready.round;
-        self.showing.records.words(tested.words())?;
-        let next = tested.settle();
-        self.showing.close_round(round, Self::digest_of(&next))?;
+        let (next, kept) = self.keep(tested);
+        self.late = kept.and(sent);
         Ok(next?)
     }
 
-    // What is still to be sent at the end.
-    pub fn send_last(&self) -> Result<(), Problem> {
-        self.last.map_or(Ok(()), |end| self.showing.line.send(&end))
+    // The round is closed, and how its records went.
+    fn keep(&mut self, tested: Tested) -> (Result<Ready, Over>, Result<(), Problem>) {
+        let round = tested.asked.drawn.ready.round;
+        let words = self.showing.records.words(tested.words());
+        let next = tested.settle();
+        let digest = Self::digest_of(&next);
+        let kept = words.and_then(|()| self.showing.close_round(round, digest));
+        (next, kept)
     }
 }
 
