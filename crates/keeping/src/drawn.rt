@@ -1,4 +1,11 @@
 // Drawn bytes, read as the rounds need them.
+ghost use Rattle.std.specs.Prelude.{◌≡◌, ℕ, ◌+◌, IfOk, IfErr, Option, [], drop, vec_len};
+ghost use Rattle.std.specs.Fn.{FnReturnsAt};
+ghost use Rattle.std.specs.Io.{StartsWith};
+ghost use Rattle.tasks.specs.Model.{task_of};
+ghost use Rattle.lots.specs.Lots.{lot_in, question_in};
+ghost use Rattle.keeping.specs.Drawn.{left_of, GoesOn, TakesSo, Takes, or_none};
+
 use command::{Input, Problem};
 use lots::{draw_lot, draw_question};
 use std::io::ErrorKind;
@@ -13,8 +20,26 @@ pub struct Drawn {
     taken: usize,
 }
 
+// How many of these bytes a lot takes; nothing where they are too few.
+fn lot_takes(task: &Task, bytes: &[u8]) -> Option<usize>
+    ensures { TakesSo (lot_in (task_of task.now) bytes.now) bytes.now (or_none result) }
+{
+    let had = draw_lot(task, bytes).ok()?;
+    Some(bytes.len().saturating_sub(had.left.len()))
+}
+
+// And a question.
+fn question_takes(task: &Task, bytes: &[u8]) -> Option<usize>
+    ensures { TakesSo (question_in (task_of task.now) bytes.now) bytes.now (or_none result) }
+{
+    let had = draw_question(task, bytes).ok()?;
+    Some(bytes.len().saturating_sub(had.left.len()))
+}
+
 impl Drawn {
-    pub fn open(rt: &HostRuntime, name: String) -> Result<Drawn, Problem> {
+    pub fn open(rt: &HostRuntime, name: String) -> Result<Drawn, Problem>
+        ensures { IfOk result (λ d. left_of d ≡ []) }
+    {
         Ok(Drawn {
             input: Input::open(rt, name)?,
             bytes: Vec::new(rt.alloc()),
@@ -23,56 +48,62 @@ impl Drawn {
     }
 
     // Holds enough for the planner's lot of the next round, or all that is left.
-    pub fn lot(&mut self, task: &Task) -> Result<(), Problem> {
+    pub fn lot(&mut self, task: &Task) -> Result<(), Problem>
+        ensures goes_on { GoesOn self.old self.new }
+        ensures takes { IfOk result (λ _. Takes (lot_in (task_of task.now)) self.new) }
+        ensures nothing { IfErr result (λ _. self.new.taken ≡ 0) }
+    {
         // Four for each number of the order, and a chance for each train. No more than a first guess: where values are passed over, a lot takes more.
         let least = 4 * (task.paths as usize - 1) + 32 * task.trains as usize;
-        self.fill(
-            least,
-            move |bytes| draw_lot(task, bytes).ok().map(|had| had.left.len()),
-        )
+        self.fill(least, move |bytes| lot_takes(task, bytes))
     }
 
     // Holds enough for the asker's question of the next round, or all that is left.
-    pub fn question(&mut self, task: &Task) -> Result<(), Problem> {
-        self.fill(
-            4,
-            move |bytes| draw_question(task, bytes).ok().map(|had| had.left.len()),
-        )
+    pub fn question(&mut self, task: &Task) -> Result<(), Problem>
+        ensures goes_on { GoesOn self.old self.new }
+        ensures takes { IfOk result (λ _. Takes (question_in (task_of task.now)) self.new) }
+        ensures nothing { IfErr result (λ _. self.new.taken ≡ 0) }
+    {
+        self.fill(4, move |bytes| question_takes(task, bytes))
     }
 
     // What it holds for the round.
-    pub fn bytes(&self) -> &[u8] {
+    pub fn bytes(&self) -> &[u8]
+        ensures { result.now ≡ self.now.bytes.items }
+    {
         self.bytes.as_slice()
     }
 
-    // A round takes so many bytes at least; `leaves` says how many of these bytes it leaves over, and nothing where they are too few. So a lot is drawn once here,
-    // to see whether the bytes suffice, and once by the round's step, which gives its state up where it is refused, and so can't be tried. Where values are passed
-    // over, as many bytes again are read as there are: after 64 times no memory would hold them, and the bound is there only since a loop has to end.
-    fn fill<F: Fn(&[u8]) -> Option<usize>>(
-        &mut self,
-        least: usize,
-        leaves: F,
-    ) -> Result<(), Problem>
-        requires { F.IsAlwaysCallable leaves }
+    // A round takes so many bytes at least; `takes` says how many of these bytes it takes, and nothing where they are too few. So a lot is drawn once here, to see
+    // whether the bytes suffice, and once by the round's step, which gives its state up where it is refused, and so can't be tried. Where values are passed over,
+    // as many bytes again are read as there are: after 64 times no memory would hold them, and the bound is there only since a loop has to end.
+    fn fill<F: Fn(&[u8]) -> Option<usize>>(&mut self, least: usize, takes: F) -> Result<(), Problem>
+        requires { F.IsAlwaysCallable takes }
+        ensures goes_on { GoesOn self.old self.new }
+        ensures takes { IfOk result (λ _. (said : Option ℕ) × FnReturnsAt F.Fn takes self.new.bytes.items said × (self.new.taken ≡ or_none said)) }
+        ensures nothing { IfErr result (λ _. self.new.taken ≡ 0) }
     {
         self.let_go();
         let held = self.bytes.len();
         self.read(least.saturating_sub(held))?;
+        let mut said = takes(self.bytes());
         for _ in 0..64 {
-            if let Some(left) = leaves(self.bytes()) {
-                self.taken = self.bytes.len().saturating_sub(left);
-                break;
-            }
             let held = self.bytes.len();
-            if self.read(held.max(4))? == 0 {
+            if said.is_some() || self.read(held.max(4))? == 0 {
                 break;
             }
+            said = takes(self.bytes());
         }
+        self.taken = said.unwrap_or(0);
         Ok(())
     }
 
     // Reads so many bytes more, or fewer where they end before. Want of memory is told as such.
-    fn read(&mut self, count: usize) -> Result<usize, Problem> {
+    fn read(&mut self, count: usize) -> Result<usize, Problem>
+        ensures count { IfOk result (λ n. vec_len self.new.bytes ≡ vec_len self.old.bytes + n) }
+        ensures front { StartsWith self.new.bytes.items self.old.bytes.items }
+        ensures taken { self.new.taken ≡ self.old.taken }
+    {
         match self.input.read(count as u64, &mut self.bytes) {
             Err(Problem::File(_, error)) if error.kind() == ErrorKind::OutOfMemory => Err(
                 Problem::Memory,
@@ -82,9 +113,12 @@ impl Drawn {
     }
 
     // The bytes that the last round took are gone.
-    fn let_go(&mut self) {
+    fn let_go(&mut self)
+        ensures bytes { self.new.bytes.items ≡ left_of self.old }
+        ensures taken { self.new.taken ≡ 0 }
+    {
         let taken = self.taken.min(self.bytes.len());
-        drop(self.bytes.drain(..taken));
+        self.bytes.drain(..taken);
         self.taken = 0;
     }
 }
