@@ -1,10 +1,10 @@
 // Drawn bytes, read as the rounds need them.
-ghost use Rattle.std.specs.Prelude.{◌≡◌, ℕ, ◌+◌, IfOk, IfErr, Option, [], drop, vec_len};
+ghost use Rattle.std.specs.Prelude.{◌≡◌, ℕ, ◌+◌, IfOk, IfErr, MatchResult, Option, [], vec_len};
 ghost use Rattle.std.specs.Fn.{FnReturnsAt};
 ghost use Rattle.std.specs.Io.{StartsWith};
 ghost use Rattle.tasks.specs.Model.{task_of};
 ghost use Rattle.lots.specs.Lots.{lot_in, question_in};
-ghost use Rattle.keeping.specs.Drawn.{left_of, GoesOn, TakesSo, Takes, or_none};
+ghost use Rattle.keeping.specs.Drawn.{left_of, GoesOn, TakesSo, Takes, or_none, OneRow};
 
 use command::{Input, Problem};
 use lots::{draw_lot, draw_question};
@@ -38,7 +38,8 @@ fn question_takes(task: &Task, bytes: &[u8]) -> Option<usize>
 
 impl Drawn {
     pub fn open(rt: &HostRuntime, name: String) -> Result<Drawn, Problem>
-        ensures { IfOk result (λ d. left_of d ≡ []) }
+        ensures holds { IfOk result (λ d. d.bytes.items ≡ []) }
+        ensures taken { IfOk result (λ d. d.taken ≡ 0) }
     {
         Ok(Drawn {
             input: Input::open(rt, name)?,
@@ -50,8 +51,8 @@ impl Drawn {
     // Holds enough for the planner's lot of the next round, or all that is left.
     pub fn lot(&mut self, task: &Task) -> Result<(), Problem>
         ensures goes_on { GoesOn self.old self.new }
-        ensures takes { IfOk result (λ _. Takes (lot_in (task_of task.now)) self.new) }
-        ensures nothing { IfErr result (λ _. self.new.taken ≡ 0) }
+        ensures takes { MatchResult result (λ _. Takes (lot_in (task_of task.now)) self.new) (λ _. self.new.taken ≡ 0) }
+        ensures row { OneRow (lot_in (task_of task.now)) }
     {
         // Four for each number of the order, and a chance for each train. No more than a first guess: where values are passed over, a lot takes more.
         let least = 4 * (task.paths as usize - 1) + 32 * task.trains as usize;
@@ -61,8 +62,8 @@ impl Drawn {
     // Holds enough for the asker's question of the next round, or all that is left.
     pub fn question(&mut self, task: &Task) -> Result<(), Problem>
         ensures goes_on { GoesOn self.old self.new }
-        ensures takes { IfOk result (λ _. Takes (question_in (task_of task.now)) self.new) }
-        ensures nothing { IfErr result (λ _. self.new.taken ≡ 0) }
+        ensures takes { MatchResult result (λ _. Takes (question_in (task_of task.now)) self.new) (λ _. self.new.taken ≡ 0) }
+        ensures row { OneRow (question_in (task_of task.now)) }
     {
         self.fill(4, move |bytes| question_takes(task, bytes))
     }
@@ -80,8 +81,8 @@ impl Drawn {
     fn fill<F: Fn(&[u8]) -> Option<usize>>(&mut self, least: usize, takes: F) -> Result<(), Problem>
         requires { F.IsAlwaysCallable takes }
         ensures goes_on { GoesOn self.old self.new }
-        ensures takes { IfOk result (λ _. (said : Option ℕ) × FnReturnsAt F.Fn takes self.new.bytes.items said × (self.new.taken ≡ or_none said)) }
-        ensures nothing { IfErr result (λ _. self.new.taken ≡ 0) }
+        ensures said { IfOk result (λ _. (said : Option ℕ) × FnReturnsAt F.Fn takes self.new.bytes.items said × (self.new.taken ≡ or_none said)) }
+        ensures told { IfErr result (λ _. self.new.taken ≡ 0) }
     {
         self.let_go();
         let held = self.bytes.len();
