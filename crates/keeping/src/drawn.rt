@@ -1,15 +1,16 @@
 // Drawn bytes, read as the rounds need them.
-ghost use Rattle.std.specs.Prelude.{◌≡◌, ℕ, ◌+◌, IfOk, IfErr, MatchResult, Option, [], vec_len};
+ghost use Rattle.std.specs.Prelude.{◌≡◌, ℕ, ◌+◌, IfOk, IfErr, MatchResult, Option, None, [], drop, vec_len};
 ghost use Rattle.std.specs.Fn.{FnReturnsAt};
 ghost use Rattle.std.specs.Io.{StartsWith};
 ghost use Rattle.tasks.specs.Model.{task_of};
 ghost use Rattle.lots.specs.Lots.{lot_in, question_in};
-ghost use Rattle.keeping.specs.Drawn.{left_of, GoesOn, TakesSo, Takes, or_none, OneRow};
+ghost use Rattle.lots.specs.Views.{EndOf};
+ghost use Rattle.keeping.specs.Drawn.{held, took, left_of, GoesOn, Takes, or_none, OneRow};
 
 use command::{Input, Problem};
-use lots::{draw_lot, draw_question};
+use lots::{Had, draw_lot, draw_question};
 use std::io::ErrorKind;
-use tasks::Task;
+use tasks::{Fault, Task};
 
 // What was read and not let go yet, and how much of it the last round took. The input is buffered, but its buffer has one size, and a round's bytes have to lie
 // side by side.
@@ -20,26 +21,18 @@ pub struct Drawn {
     taken: usize,
 }
 
-// How many of these bytes a lot takes; nothing where they are too few.
-fn lot_takes(task: &Task, bytes: &[u8]) -> Option<usize>
-    ensures { TakesSo (lot_in (task_of task.now) bytes.now) bytes.now (or_none result) }
+// How many of these bytes what was drawn from them takes; nothing where they are too few.
+fn taken_by<T: Drop>(drawn: Result<Had<'_, T>, Fault>, bytes: &[u8]) -> Option<usize>
+    ensures { MatchResult drawn.entry (λ h. EndOf bytes.now h.left.now → drop (or_none result) bytes.now ≡ h.left.now) (λ _. result ≡ None) }
 {
-    let had = draw_lot(task, bytes).ok()?;
-    Some(bytes.len().saturating_sub(had.left.len()))
-}
-
-// And a question.
-fn question_takes(task: &Task, bytes: &[u8]) -> Option<usize>
-    ensures { TakesSo (question_in (task_of task.now) bytes.now) bytes.now (or_none result) }
-{
-    let had = draw_question(task, bytes).ok()?;
+    let had = drawn.ok()?;
     Some(bytes.len().saturating_sub(had.left.len()))
 }
 
 impl Drawn {
     pub fn open(rt: &HostRuntime, name: String) -> Result<Drawn, Problem>
-        ensures holds { IfOk result (λ d. d.bytes.items ≡ []) }
-        ensures taken { IfOk result (λ d. d.taken ≡ 0) }
+        ensures held { IfOk result (λ d. held d ≡ []) }
+        ensures took { IfOk result (λ d. took d ≡ 0) }
     {
         Ok(Drawn {
             input: Input::open(rt, name)?,
@@ -51,26 +44,26 @@ impl Drawn {
     // Holds enough for the planner's lot of the next round, or all that is left.
     pub fn lot(&mut self, task: &Task) -> Result<(), Problem>
         ensures goes_on { GoesOn self.old self.new }
-        ensures takes { MatchResult result (λ _. Takes (lot_in (task_of task.now)) self.new) (λ _. self.new.taken ≡ 0) }
+        ensures takes { MatchResult result (λ _. Takes (lot_in (task_of task.now)) self.new) (λ _. took self.new ≡ 0) }
         ensures row { OneRow (lot_in (task_of task.now)) }
     {
         // Four for each number of the order, and a chance for each train. No more than a first guess: where values are passed over, a lot takes more.
         let least = 4 * (task.paths as usize - 1) + 32 * task.trains as usize;
-        self.fill(least, move |bytes| lot_takes(task, bytes))
+        self.fill(least, move |bytes| taken_by(draw_lot(task, bytes), bytes))
     }
 
     // Holds enough for the asker's question of the next round, or all that is left.
     pub fn question(&mut self, task: &Task) -> Result<(), Problem>
         ensures goes_on { GoesOn self.old self.new }
-        ensures takes { MatchResult result (λ _. Takes (question_in (task_of task.now)) self.new) (λ _. self.new.taken ≡ 0) }
+        ensures takes { MatchResult result (λ _. Takes (question_in (task_of task.now)) self.new) (λ _. took self.new ≡ 0) }
         ensures row { OneRow (question_in (task_of task.now)) }
     {
-        self.fill(4, move |bytes| question_takes(task, bytes))
+        self.fill(4, move |bytes| taken_by(draw_question(task, bytes), bytes))
     }
 
     // What it holds for the round.
     pub fn bytes(&self) -> &[u8]
-        ensures { result.now ≡ self.now.bytes.items }
+        ensures { result.now ≡ held self.now }
     {
         self.bytes.as_slice()
     }
@@ -81,8 +74,8 @@ impl Drawn {
     fn fill<F: Fn(&[u8]) -> Option<usize>>(&mut self, least: usize, takes: F) -> Result<(), Problem>
         requires { F.IsAlwaysCallable takes }
         ensures goes_on { GoesOn self.old self.new }
-        ensures said { IfOk result (λ _. (said : Option ℕ) × FnReturnsAt F.Fn takes self.new.bytes.items said × (self.new.taken ≡ or_none said)) }
-        ensures told { IfErr result (λ _. self.new.taken ≡ 0) }
+        ensures said { IfOk result (λ _. (said : Option ℕ) × FnReturnsAt F.Fn takes (held self.new) said × (took self.new ≡ or_none said)) }
+        ensures told { IfErr result (λ _. took self.new ≡ 0) }
     {
         self.let_go();
         let held = self.bytes.len();
@@ -102,8 +95,8 @@ impl Drawn {
     // Reads so many bytes more, or fewer where they end before. Want of memory is told as such.
     fn read(&mut self, count: usize) -> Result<usize, Problem>
         ensures count { IfOk result (λ n. vec_len self.new.bytes ≡ vec_len self.old.bytes + n) }
-        ensures front { StartsWith self.new.bytes.items self.old.bytes.items }
-        ensures taken { self.new.taken ≡ self.old.taken }
+        ensures front { StartsWith (held self.new) (held self.old) }
+        ensures took { took self.new ≡ took self.old }
     {
         match self.input.read(count as u64, &mut self.bytes) {
             Err(Problem::File(_, error)) if error.kind() == ErrorKind::OutOfMemory => Err(
@@ -115,8 +108,8 @@ impl Drawn {
 
     // The bytes that the last round took are gone.
     fn let_go(&mut self)
-        ensures bytes { self.new.bytes.items ≡ left_of self.old }
-        ensures taken { self.new.taken ≡ 0 }
+        ensures held { held self.new ≡ left_of self.old }
+        ensures took { took self.new ≡ 0 }
     {
         let taken = self.taken.min(self.bytes.len());
         self.bytes.drain(..taken);
