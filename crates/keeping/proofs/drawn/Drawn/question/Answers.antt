@@ -1,0 +1,8 @@
+use Rattle.tasks.specs.Model.{task_of}
+use Rattle.lots.specs.Lots.{question_in}
+use Rattle.lots.proofs.Following.{question_follows}
+use Rattle.keeping.proofs.Rows.{one_row}
+use Rattle.keeping.proofs.drawn.Drawn.question.Goals as goal
+
+pub returns-clause-row : goal.returns-clause-row
+returns-clause-row c = let t = task_of c.args.task.now in one_row (question_in t) (question_follows t)
