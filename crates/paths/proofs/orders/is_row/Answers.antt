@@ -1,8 +1,8 @@
 use Rattle.std.proofs.Common.{sym, refl}
 use Rattle.std.proofs.lemmas.List.{length_push}
-use Rattle.std.proofs.lemmas.Iterator.Consumers.{YieldsList-turn, YieldsList-end}
+use Rattle.std.proofs.lemmas.Iterator.Consumers.{YieldsList-turn}
 use Rattle.std.proofs.lemmas.Iterator.Adapters.{YieldsList-from_rev_slice}
-use Rattle.paths.proofs.Once.{passed_none, passed-more, passed_high, passed-twice, passed-all}
+use Rattle.paths.proofs.Once.{passed_none, passed-more, passed_high, passed-twice}
 use Rattle.paths.proofs.orders.is_row.Goals as goal
 use Rattle.paths.proofs.orders.is_row.Goals.{then-number-bytes-via-then-number-bytes, then-number-bytes-via-else-number-bytes+then-met-number}
 

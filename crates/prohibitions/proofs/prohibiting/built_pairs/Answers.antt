@@ -7,11 +7,11 @@ use Rattle.prohibitions.proofs.Placing.{order_of_task}
 use Rattle.prohibitions.proofs.Building.{all-put}
 use Rattle.prohibitions.proofs.prohibiting.built_pairs.Goals as goal
 
-pub put_all-requires : goal.put_all-requires
-put_all-requires c =
+pub put_all-requires-clause-order : goal.put_all-requires-clause-order
+put_all-requires-clause-order c =
     let e = c.in_ok-pairs.ensures.items ∙ c.as_slice.ensures.value in
     let t = c.args.task.now in
-    record { few = omega (arith, t.few_pairs, c.in_ok-pairs.ensures.len, c.as_slice.ensures.len); order = ap (λ xs. in_order (map pair_of xs)) e ∙ order_of_task t.trains _ t.rising_pairs }
+    ap (λ xs. in_order (map pair_of xs)) e ∙ order_of_task t.trains _ t.rising_pairs
 
 pub returns-in_err-put_all : goal.returns-in_err-put_all
 returns-in_err-put_all c =

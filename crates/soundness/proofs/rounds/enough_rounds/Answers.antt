@@ -8,15 +8,10 @@ use Rattle.soundness.specs.Sound.{EnoughFor, pairs_of}
 use Rattle.soundness.proofs.Shares.{sound-along-enough}
 use Rattle.soundness.proofs.rounds.enough_rounds.Goals as goal
 
-pub returns : goal.returns
-returns c =
+pub returns-clause-enough : goal.returns-clause-enough
+returns-clause-enough c =
     let task = c.args.task.now in
     let t = task_of task in
     let l = length-map (vec_items task.pairs) pair_of in
-    let n = task.pairs.ok.0 in
     let forty : c.default_rounds.result ≡ 40 * pairs_of t = omega arith in
-    record {
-      is = forty;
-      few = omega (arith, task.few_pairs);
-      enough = subst (EnoughFor t) (sym forty) (λ none H other. sound-along-enough H other t (sound_of task) none);
-    }
+    subst (EnoughFor t) (sym forty) (λ none H other. sound-along-enough H other t (sound_of task) none)

@@ -1,17 +1,12 @@
 use Rattle.std.proofs.Common.{◌++◌, length, drop, length-take, sym, ap, arith}
-use Rattle.std.proofs.lemmas.Result.{err_from_is_err_and}
 use Rattle.pairing.specs.Coins.{left_by}
 use Rattle.pairing.specs.Plans.{both_of}
-use Rattle.pairing.proofs.Bytes.{order_room, coin_refused, coin_made, coin_goes}
+use Rattle.pairing.proofs.Bytes.{order_room, coin_made, coin_goes}
 use Rattle.pairing.proofs.Promises.{promised}
 use Rattle.pairing.proofs.plans.Plans.pair_coin.Goals as goal
 
-pub returns-in_err-order : goal.returns-in_err-order
-returns-in_err-order c =
-    let s = c.args.self.now in
-    let p = err_from_is_err_and c.from_residual.result c.from_residual.ensures.1 in
-    let e = coin_refused (both_of s) c.args.question c.args.coin.now _ c.in_err-order.ensures in
-    rw (p.1, p.2) (record { answer = sym e; left = sym (ap (λ g. left_by g c.args.coin.now) e); coin = tt; promise = promised s })
+pub returns-in_err-order-clause-promise : goal.returns-in_err-order-clause-promise
+returns-in_err-order-clause-promise c = promised c.args.self.now
 
 pub slice_bounds-copy_from_slice-end : goal.slice_bounds-copy_from_slice-end
 slice_bounds-copy_from_slice-end c =

@@ -1,6 +1,6 @@
 use Rattle.std.proofs.Common.{sym}
 use Rattle.std.proofs.lemmas.Bool.{and_parts, and_from}
-use Rattle.paths.proofs.Partnered.{still_row, is_paired}
+use Rattle.paths.proofs.Partnered.{still_row}
 use Rattle.paths.proofs.order.Order.paired.Goals as goal
 
 pub invariant_of-result : goal.invariant_of-result
