@@ -1,12 +1,12 @@
 -- Boxes closed group by group, eight trains in each but the last. Assumes nothing.
 use Rattle.std.proofs.Common.{◌≡◌, ℕ, ◌+◌, ◌-◌, ◌*◌, ◌<◌, ◌≤◌, min, List, ◌++◌, length, take, drop, sym, refl, ap, ◌∙◌, arith}
 use borrow.Rule.Slice.PartMut.{put_mid}
-use Rattle.std.proofs.lemmas.List.{drop_at, drop-drop, length-append, length-drop, take_all, take_at, take_rest}
+use Rattle.std.proofs.lemmas.List.{drop_at, drop-drop, length-drop, take_at, take_rest}
 use Rattle.sha256.specs.Sha256.{sha256}
 use Rattle.boxes.specs.Box.{boxes_of}
 use Rattle.boxes.proofs.Boxes.{boxes-more, length-boxes}
 use Rattle.boxes.proofs.Digests.{length-sha256}
-use Rattle.boxes.proofs.Parts.{Put, put-none, put-more, put_all}
+use Rattle.boxes.proofs.Parts.{Put, put-none, put-more}
 
 -- the trains of n groups, of so many in all
 abbrev pub in_groups : ℕ → List ℕ → ℕ
@@ -21,10 +21,6 @@ module _ (round : ℕ) (numbers chances was : List ℕ) where
   pub closed-none : (n : ℕ) (left : List ℕ) → n ≡ 0 → left ≡ numbers → Closed round numbers chances was n left was
   unfolding boxes_of
   closed-none n left en el = let e : in_groups n numbers ≡ 0 = omega arith in record { left_is = rw e el; put = rw e (put-none 32 was) }
-
-  -- how many trains a group has
-  pub group-within : (n i : ℕ) (left group rest out : List ℕ) → Closed round numbers chances was n left out → i ≡ n → left ≡ group ++ rest → 0 < length left → 8 * i + length group ≤ length numbers
-  group-within n i left group rest out c ei e pos = omega (arith, ap length c.left_is ∙ length-drop (in_groups n numbers) numbers, ap length e ∙ length-append group rest)
 
   -- one more group
   pub closed-more : (n i m : ℕ) (left group rest out last : List ℕ) → Closed round numbers chances was n left out → i ≡ n → m ≡ n + 1 →
@@ -46,9 +42,3 @@ module _ (round : ℕ) (numbers chances was : List ℕ) where
       let q = put-more 32 t k (32 * k) _ (boxes_of sha256 round t group (drop (32 * t) chances)) out was last refl (omega arith)
       (length-boxes sha256 round length-sha256 group (drop (32 * t) chances) t) (rw (ei, take_rest chances (32 * t)) at el) p in
       record { left_is = rw after r; put = rw (after, ei, ← b) q }
-
-  pub closed_all : (n : ℕ) (left out : List ℕ) → Closed round numbers chances was n left out → length left ≡ 0 → out ≡ boxes_of sha256 round 0 numbers chances ++ drop (32 * length numbers) was
-  closed_all n left out c e =
-      let l = ap length c.left_is ∙ length-drop (in_groups n numbers) numbers in
-      let t : in_groups n numbers ≡ length numbers = omega arith in
-      put_all 32 _ _ _ _ c.put ∙ (rw (t, take_all (length numbers) numbers (omega arith)) refl)

@@ -1,7 +1,6 @@
--- The pairs that were listed and put are those of the built task, and what is then answered.
-use Rattle.std.proofs.Common.{◌≡◌, ◌+◌, ◌<◌, ◌≤◌, true, false, cond, ◌&&◌, leb, ◌⊎◌, List, [], ◌∷◌, ◌++◌, map, length, vec_items, vec_len, Vec, sym, refl, ap, ◌∙◌, subst, inl, inr, arith}
+-- The pairs that were listed and put are those of the built task, and what it then guarantees.
+use Rattle.std.proofs.Common.{◌≡◌, ◌+◌, ◌≤◌, true, List, [], ◌∷◌, ◌++◌, map, length, vec_items, vec_len, Vec, sym, refl, ap, ◌∙◌, subst, arith}
 use lib.ListN.{length-map}
-use Rattle.std.proofs.lemmas.Bool.{le-leb, lt-leb, and_from, and_left, and_right}
 use Rattle.paths.specs.Plan.{Pair, Task}
 use Rattle.tasks.specs.declared.pair.Pair.{Pair as CodePair}
 use Rattle.prohibitions.specs.declared.prohibiting.Prohibition.{Prohibition}
@@ -9,12 +8,11 @@ use Rattle.tasks.specs.Pair.{pair_of}
 use Rattle.std.specs.declared.alloc.Global.{Global}
 use Rattle.tasks.specs.declared.task.Task.{Task as CodeTask}
 use Rattle.tasks.specs.Model.{task_of}
-use Rattle.prohibitions.specs.Prohibiting.{put_all, every_two, pair_for, built, named, prohibit, Fixes}
+use Rattle.prohibitions.specs.Prohibiting.{put_all, every_two, pair_for, built, named, Fixes}
 use Rattle.tasks.specs.Task.{sound}
 use Rattle.prohibitions.proofs.Prohibits.{fixes}
 use Rattle.prohibitions.proofs.Puts.{built-sound}
 use Rattle.tasks.proofs.TaskLaws.{Guarantees, guarantees, sound_from}
-use Rattle.tasks.specs.Reading.{got, refused}
 
 put_all-append : (xs ys zs : List Pair) → put_all (xs ++ ys) zs ≡ put_all ys (put_all xs zs)
 unfolding put_all
@@ -30,16 +28,6 @@ module _ (t : Task) (bs : List Prohibition) where
       ap (map pair_of) s ∙ (g ∙ ap (λ xs. xs ++ map (pair_for t.trains) bs) (f ∙ ap (λ xs. map pair_of xs ++ every_two t.trains t.paths) e)) in
       let olds' : map pair_of kept ≡ t.pairs = ap (map pair_of) k ∙ sym o in
       ap (put_all (map pair_of seen)) olds' ∙ (ap (λ xs. put_all xs t.pairs) listed ∙ put_all-append (every_two t.trains t.paths) (map (pair_for t.trains) bs) t.pairs)
-
-  pub too_many : (named t bs ≡ false) ⊎ (4096 < length (built t bs).pairs) → refused 2 ≡ prohibit t bs
-  too_many h =
-      let a = leb (t.trains + t.paths) 1024 in
-      let c = leb (length (built t bs).pairs) 4096 in
-      let f : (a && named t bs && c) ≡ false = elim h [ inl n ↦ and_left _ c (and_right a _ n) | inr l ↦ and_right _ _ (lt-leb _ 4096 l) ] in
-      sym (ap (λ b. cond b (got (built t bs)) (refused 2)) f)
-
-  pub few-enough : t.trains + t.paths ≤ 1024 → named t bs ≡ true → length (built t bs).pairs ≤ 4096 → got (built t bs) ≡ prohibit t bs
-  few-enough h n l = sym (ap (λ b. cond b (got (built t bs)) (refused 2)) (and_from _ _ (and_from _ _ (le-leb _ 1024 h) n) (le-leb _ 4096 l)))
 
 -- what is guaranteed of a task of the code makes it sound
 pub is_sound : (t : CodeTask) → sound (task_of t) ≡ true
@@ -70,9 +58,6 @@ module _ (t : CodeTask) (bs : List Prohibition) (v : Vec CodePair Global) (h : t
 
   pub build_guarantees : Guarantees kept
   build_guarantees = guarantees kept (ap sound same ∙ built-sound (task_of t) bs (is_sound t) b.0 h few)
-
-  pub build_answer : got kept ≡ prohibit (task_of t) bs
-  build_answer = ap got same ∙ few-enough (task_of t) bs h b.0 few
 
   pub build_fixes : Fixes (task_of t) bs kept
   build_fixes = subst (λ (u : Task). Fixes (task_of t) bs u) (sym same) (fixes (task_of t) bs (is_sound t) b.0)
