@@ -28,7 +28,10 @@ use Rattle.asking.specs.Asking.{is_opened_of, test, settle}
 use Rattle.soundness.specs.Texts.{find}
 use Rattle.soundness.proofs.Bounds.{sound-whole}
 use Rattle.soundness.proofs.Examples.{examples}
-use Rattle.joined.specs.Cases.{AllHold, cases, three, two, wins, NoPlan, Cheats, lot_of, asked, altered, answer, NotOpened, AnotherChance}
+use Rattle.sha256.specs.Sha256.{bytes}
+use Rattle.drawing.specs.Drawing.{draw, order_moduli, values_of}
+use Rattle.tasks.specs.Reading.{read_each}
+use Rattle.joined.specs.Cases.{AllHold, faults, cases, three, two, wins, NoPlan, Cheats, lot_of, asked, altered, answer, NotOpened, AnotherChance}
 
 none-two : NoPlan two
 none-two p fp =
@@ -111,3 +114,8 @@ pub all-cases : AllHold cases
 unfolding AllHold up_to before asks count passes
 all-cases =
     (refl, ((λ chances. refl), (refl, ((λ chances. refl), (same-pair.none, (refl, (refl, (refl, (at_most_four, (examples.four, (few-trio, (none-two, (never-two, (never_two, (refl, (another_chance sha256 length-sha256, (another_chance, tt)))))))))))))))))
+
+pub all_faults : AllHold faults
+unfolding AllHold bytes read_each rising draw order_moduli values_of
+all_faults =
+    ((λ H ds c d. refl), ((λ H ds c d. refl), ((λ H ds c d. refl), ((λ H ds c d. refl), ((λ H ds. refl), (refl, (refl, (refl, (refl, (refl, (refl, (refl, (refl, (refl, (refl, (refl, (refl, tt)))))))))))))))))

@@ -1,13 +1,15 @@
 -- The worked cases: one table of what is computed by the definitions and what is expected, and of what is claimed of them. H is any function in the place of SHA-256.
 -- Assumes nothing.
-use Rattle.std.specs.Prelude.{◌≡◌, ℕ, ◌*◌, ◌<◌, ◌≤◌, true, false, cond, T, ◌≢◌, ◌⊎◌, List, [], ◌∷◌, map, length}
+use Rattle.std.specs.Prelude.{◌≡◌, ℕ, ◌*◌, ◌<◌, ◌≤◌, true, false, cond, T, ◌≢◌, ◌⊎◌, List, [], ◌∷◌, map, length, replicate}
 use Rattle.paths.specs.Plan.{Task, Plan, at, fits}
 use Rattle.paths.specs.Show.{Shown}
 use Rattle.paths.specs.Cheat as cheat
 use Rattle.paths.specs.Cheat.{Cheat, lucky, count}
 use Rattle.paths.specs.Misses.{trio}
 use Rattle.paths.specs.Pairing.{pair_coin}
-use Rattle.tasks.specs.Reading.{refused}
+use Rattle.tasks.specs.Reading.{Got, Looked, got, refused}
+use Rattle.tasks.specs.Rounds.{asked_rounds}
+use Rattle.tasks.specs.Writing.{task_bytes}
 use Rattle.sha256.specs.Sha256.{sha256}
 use Rattle.boxes.specs.Box.{Opening}
 use Rattle.boxes.specs.Binding.{collides, texts_of}
@@ -17,14 +19,16 @@ use Rattle.lots.specs.Lots.{Lot}
 use Rattle.words.specs.Said.{Said, task, plan, boxes, ask, opened, end}
 use Rattle.words.specs.Writing.{said_bytes}
 use Rattle.round.specs.Line.{Other}
-use Rattle.round.specs.Over.{fault, out}
-use Rattle.round.specs.Round.{held, part_of, boxes_for, opening_for, opened_for, content_with}
+use Rattle.round.specs.Over.{fault, task_fault, out}
+use Rattle.round.specs.Round.{held, part_of, boxes_for, opening_for, opened_for, content_with, test_opened}
+use Rattle.planning.specs.Planning as planning
+use Rattle.asking.specs.Asking as asking
 use Rattle.asking.specs.Asking.{Asked, test, settle}
 use Rattle.soundness.specs.Questioned.{asking_on}
 use Rattle.soundness.specs.Sound.{passes}
 use Rattle.soundness.specs.Texts.{find}
 use Rattle.soundness.specs.Examples as example
-use Rattle.soundness.specs.Examples.{tells, as_closed}
+use Rattle.soundness.specs.Examples.{tells, mixes, as_closed}
 
 -- what is computed, and what is expected; or a claim
 pub data Case : Type 1 where
@@ -103,6 +107,50 @@ abbrev pub AnotherChance : (List ℕ → List ℕ) → Type 0
 AnotherChance H =
     (digest chances another : List ℕ) → length chances ≡ 96 → length another ≡ 32 → another ≢ part_of chances 0 →
     NotOpened H digest chances another ⊎ (collides H (texts_of 0 (altered H digest chances another) (opening_for (0 ∷ 1 ∷ 2 ∷ []) (lot_of chances) 0)) ≡ true)
+
+-- The faults of words that were read whole, a case for each, and of a word to which more than one applies
+-- an opening of a train that tells a number
+abbrev pub telling : ℕ → ℕ → List ℕ → Opening
+telling j n chance = record { train = j; number = n; chance = chance }
+
+-- the test of an Opened that round 0 asked for with pair 0-2
+abbrev pub tested : (List ℕ → List ℕ) → List ℕ → Said → Got Looked
+tested H digests said = test_opened H three 0 1 digests said
+
+-- before round 0 of 1, with no drawn bytes
+abbrev pub planned : planning.Ready
+planned = record { task = three; plan = 0 ∷ 1 ∷ 2 ∷ []; rounds = 1; round = 0; digest = [] }
+
+abbrev pub awaiting : asking.Ready
+awaiting = record { task = three; rounds = 1; round = 0; digest = [] }
+
+abbrev pub faults : List Case
+faults =
+    -- 2 for a train that isn't there, though it is another round; 6 for another round; 8 for other trains, or those of the pair exchanged
+    claims ((H : List ℕ → List ℕ) (ds c d : List ℕ) → tested H ds (opened 1 (telling 3 0 c) (telling 2 1 d)) ≡ refused 2) ∷
+    claims ((H : List ℕ → List ℕ) (ds c d : List ℕ) → tested H ds (opened 1 (telling 0 0 c) (telling 1 1 d)) ≡ refused 6) ∷
+    claims ((H : List ℕ → List ℕ) (ds c d : List ℕ) → tested H ds (opened 0 (telling 0 0 c) (telling 1 1 d)) ≡ refused 8) ∷
+    claims ((H : List ℕ → List ℕ) (ds c d : List ℕ) → tested H ds (opened 0 (telling 2 0 c) (telling 0 1 d)) ≡ refused 8) ∷
+    -- another word is 6
+    claims ((H : List ℕ → List ℕ) (ds : List ℕ) → tested H ds (ask 0 1) ≡ refused 6) ∷
+    -- 9 where a box isn't opened, though the number is no path's; 10 for a number that is no path's, and for the same twice, where both boxes are opened
+    gives (tested tells (replicate 96 0) (opened 0 (telling 0 3 (replicate 32 0)) (telling 2 1 (replicate 32 0)))) (refused 9) ∷
+    gives (tested mixes (replicate 96 0) (opened 0 (telling 0 3 (replicate 32 0)) (telling 2 1 (replicate 32 0)))) (refused 10) ∷
+    gives (tested mixes (replicate 96 0) (opened 0 (telling 0 1 (replicate 32 0)) (telling 2 1 (replicate 32 0)))) (refused 10) ∷
+    gives (tested mixes (replicate 96 0) (opened 0 (telling 0 0 (replicate 32 0)) (telling 2 1 (replicate 32 0)))) (got tt) ∷
+    -- an Ask of another round, though the pair isn't there; of a pair that isn't there; an End of another round
+    gives (planning.ask_in three 0 (said_bytes (ask 1 3))) (refused 6) ∷
+    gives (planning.ask_in three 0 (said_bytes (ask 0 3))) (refused 7) ∷
+    gives (planning.end_in three 0 (said_bytes (end 1 true))) (refused 6) ∷
+    -- another task
+    gives (asking.meet tells record { task = three; rounds = 1 } (task_bytes trio)) (out record { outcome = task_fault 4; digest = tells (task_bytes three) }) ∷
+    -- no drawn bytes
+    gives (planning.close tells planned []) (out record { outcome = fault 11 0; digest = [] }) ∷
+    gives (asking.draw awaiting []) (out record { outcome = fault 11 0; digest = [] }) ∷
+    -- one round more than the most
+    gives (asked_rounds 16777216) (got 16777216) ∷
+    gives (asked_rounds 16777217) (refused 12) ∷
+    []
 
 abbrev pub cases : List Case
 cases =

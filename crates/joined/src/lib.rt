@@ -4,7 +4,7 @@
 
 ghost use Rattle.std.specs.Prelude.{◌≡◌, ℕ, List};
 ghost use Rattle.joined.specs.Answered.{Completes};
-ghost use Rattle.joined.specs.Cases.{AllHold, cases};
+ghost use Rattle.joined.specs.Cases.{AllHold, cases, faults};
 ghost use Rattle.joined.specs.Joined.{Joins};
 ghost use Rattle.joined.specs.Refused.{RefusedEnds};
 ghost use Rattle.joined.specs.Side.{JoinedIs};
@@ -31,9 +31,10 @@ pub fn joined_holds()
     ensures { Joins }
 {}
 
-// The worked cases. The answer is the number of rounds of the one with three pairs, where nobody says otherwise.
+// The worked cases, and a case for each fault of words that were read whole. The answer is the number of rounds of the one with three pairs, where nobody says otherwise.
 pub fn cases_hold() -> u32
     ensures table { AllHold cases }
+    ensures faults { AllHold faults }
     ensures rounds { result ≡ 120 }
 {
     default_rounds(3)

@@ -1,5 +1,5 @@
 -- With lots paired, the lines of two showings differ only in boxes that stay closed. Assumes nothing.
-use Rattle.std.proofs.Common.{◌≡◌, ℕ, zero, suc, ◌+◌, ◌/◌, ◌<◌, ◌≤◌, Bool, true, false, cond, T, eqb, ltb, List, [], ◌∷◌, ◌++◌, map, length, take, drop, sym, refl, ap, ◌∙◌, subst, zero-add, arith, lt→ltb}
+use Rattle.std.proofs.Common.{◌≡◌, ℕ, zero, suc, ◌+◌, ◌/◌, ◌<◌, ◌≤◌, Bool, true, false, T, ltb, List, [], ◌∷◌, ◌++◌, map, length, take, drop, sym, refl, ap, ◌∙◌, subst, zero-add, arith, lt→ltb}
 use mathlib.Core.List.{reverse_aux}
 use lib.Ieee.Fits.{and_i}
 use Rattle.std.proofs.Math.Seq.{drop-append-add}

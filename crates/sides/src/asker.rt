@@ -4,8 +4,12 @@ ghost use Rattle.sha256.specs.Sha256.{sha256};
 ghost use Rattle.tasks.specs.Model.{task_of};
 ghost use Rattle.asking.specs.Conduct.{Conduct};
 ghost use Rattle.asking.specs.Model.{awaiting_of};
+ghost use Rattle.round.specs.Line.{Other};
+ghost use Rattle.soundness.specs.Found.{FoundBoxes};
+ghost use Rattle.soundness.specs.Texts.{PutsFew};
 ghost use Rattle.soundness.specs.Sound.{SoundAlong, Sound, SoundAlongDrawn, SoundDrawn, SoundAlongEnough, SoundEnough};
 ghost use Rattle.joined.specs.Joined.{Joins};
+ghost use Rattle.joined.specs.Cases.{AllHold, cases, faults};
 ghost use Rattle.joined.specs.Refused.{RefusedEnds};
 ghost use Rattle.joined.specs.Sides.{NothingAfter};
 
@@ -23,11 +27,15 @@ pub fn start_asker(heap: Global, task: Task, rounds: Rounds) -> Result<Awaiting,
     ensures sound { Sound }
     ensures along_drawn { SoundAlongDrawn }
     ensures drawn { SoundDrawn }
+    ensures found { FoundBoxes }
+    ensures few { (other : Other) → PutsFew sha256 other }
     ensures along_enough { SoundAlongEnough }
     ensures enough { SoundEnough }
     ensures joined { Joins }
     ensures after { NothingAfter sha256 }
     ensures refused { RefusedEnds sha256 }
+    ensures cases { AllHold cases }
+    ensures faults { AllHold faults }
 {
     Awaiting::start(heap, task, rounds)
 }

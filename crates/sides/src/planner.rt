@@ -8,6 +8,7 @@ ghost use Rattle.planning.specs.Model.{begun_of};
 ghost use Rattle.planning.specs.Planning.{start};
 ghost use Rattle.secrecy.specs.Secrecy.{KeptSecret, Secrecy};
 ghost use Rattle.joined.specs.Answered.{Completes};
+ghost use Rattle.joined.specs.Cases.{AllHold, cases, faults};
 ghost use Rattle.joined.specs.Joined.{Joins};
 ghost use Rattle.joined.specs.Refused.{RefusedEnds};
 ghost use Rattle.joined.specs.Sides.{NothingAfter};
@@ -29,6 +30,8 @@ pub fn start_planner(heap: Global, task: Task, plan: Plan, rounds: Rounds) -> Re
     ensures joined { Joins }
     ensures after { NothingAfter sha256 }
     ensures refused { RefusedEnds sha256 }
+    ensures cases { AllHold cases }
+    ensures faults { AllHold faults }
     ensures blameless { Blameless sha256 }
 {
     secrecy::start(heap, task, plan, rounds)

@@ -5,3 +5,4 @@ pub mod Found
 pub mod Bounds
 pub mod Shares
 pub mod Examples
+pub mod Few

@@ -1,9 +1,9 @@
 -- Texts at hand from a planner that can be asked again at the same point of the line: the openings that it gives there, for all questions; of those of one
 -- train, the first two whose texts collide. H is any function in the place of SHA-256. Assumes nothing.
-use Rattle.std.specs.Prelude.{ℕ, zero, suc, cond, List, [], ◌∷◌, ◌++◌, map, length, drop, filter, nat_eq}
+use Rattle.std.specs.Prelude.{◌≡◌, ℕ, zero, suc, ◌+◌, ◌≤◌, cond, List, [], ◌∷◌, ◌++◌, map, length, drop, filter, nat_eq}
 use Rattle.std.specs.List.{flat_map}
 use Rattle.paths.specs.Plan.{Task}
-use Rattle.paths.specs.Cheat.{asks}
+use Rattle.paths.specs.Cheat.{asks, up_to}
 use Rattle.tasks.specs.Reading.{Got, got, refused, and_then}
 use Rattle.boxes.specs.Box.{Opening}
 use Rattle.boxes.specs.Binding.{TwoTexts, collides, texts_of}
@@ -67,6 +67,12 @@ module _ (H : List ℕ → List ℕ) (other : Other) where
   texts_along (i ∷ is) (out o) line = []
   texts_along (i ∷ is) (on s) line = let g = boxed H other line record { ready = s; pair = i } in texts_at s line ++ texts_along is g.to g.line
 
+  -- at how many points that is
+  unfoldable pub points : List ℕ → Leads Ready → List Event → ℕ
+  points [] lead line = 0
+  points (i ∷ is) (out o) line = 0
+  points (i ∷ is) (on s) line = let g = boxed H other line record { ready = s; pair = i } in 1 + points is g.to g.line
+
   -- all that is at hand along one row of questions
   abbrev pub texts_in : Task → ℕ → List ℕ → List TwoTexts
   texts_in t r is = let word = other [] in texts_along is (meet H record { task = t; rounds = r } word) (heard word ∷ [])
@@ -78,3 +84,8 @@ module _ (H : List ℕ → List ℕ) (other : Other) where
   -- two texts from all rows of r questions
   abbrev pub find : Task → ℕ → TwoTexts
   find t r = first_of H (flat_map (texts_in t r) (asks (length t.pairs) r))
+
+-- So few questions are put: along a row of r, at no more than r points, and at each the first m, once each. What is accepted there is found in these answers alone.
+pub record PutsFew (H : List ℕ → List ℕ) (other : Other) : Type 0 where
+  pub few_points : (is : List ℕ) (lead : Leads Ready) (line : List Event) → points H other is lead line ≤ length is
+  pub each_once : (s : Ready) (line : List Event) (m : ℕ) → openings H other s line m ≡ flat_map (accepted H other s line) (up_to m)

@@ -2,9 +2,12 @@
 // of a function with no code, so that it is checked as any other.
 #![tactic(auto)]
 
+ghost use Rattle.std.specs.Prelude.{ℕ, List};
+ghost use Rattle.round.specs.Line.{Other};
 ghost use Rattle.soundness.specs.Examples.{Examples};
 ghost use Rattle.soundness.specs.Found.{FoundBoxes};
 ghost use Rattle.soundness.specs.Questioned.{RunsOn};
+ghost use Rattle.soundness.specs.Texts.{PutsFew};
 ghost use Rattle.soundness.specs.Sound.{Sound, SoundAlong, SoundAlongDrawn, SoundDrawn, SoundAlongEnough, SoundEnough};
 
 mod rounds;
@@ -26,6 +29,7 @@ pub fn soundness_holds()
     ensures along_enough { SoundAlongEnough }
     ensures whole_enough { SoundEnough }
     ensures found { FoundBoxes }
+    ensures few { (hash : List ℕ → List ℕ) (other : Other) → PutsFew hash other }
 {}
 
 // The bound is met, and the texts are found: two planners, computed.

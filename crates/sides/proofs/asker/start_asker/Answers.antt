@@ -1,6 +1,9 @@
 use Rattle.sha256.specs.Sha256.{sha256}
 use Rattle.soundness.proofs.Bounds.{sound-along, sound-whole}
+use Rattle.soundness.proofs.Few.{puts_few}
+use Rattle.soundness.proofs.Found.{found_boxes}
 use Rattle.soundness.proofs.Shares.{sound-along-drawn, sound-drawn, sound-along-enough, sound-enough}
+use Rattle.joined.proofs.Cases.{all-cases, all_faults}
 use Rattle.joined.proofs.Joins.{joins}
 use Rattle.joined.proofs.Refused.{refused_ends}
 use Rattle.joined.proofs.Sides.{nothing_after}
@@ -15,9 +18,13 @@ returns c =
       sound = sound-whole;
       along_drawn = sound-along-drawn;
       drawn = sound-drawn;
+      found = found_boxes;
+      few = puts_few sha256;
       along_enough = sound-along-enough;
       enough = sound-enough;
       joined = joins;
       after = nothing_after sha256;
       refused = refused_ends sha256;
+      cases = all-cases;
+      faults = all_faults;
     }

@@ -2,6 +2,7 @@ use Rattle.sha256.specs.Sha256.{sha256}
 use Rattle.boxes.proofs.Digests.{length-sha256}
 use Rattle.secrecy.proofs.All.{secret}
 use Rattle.joined.proofs.Answered.{completes}
+use Rattle.joined.proofs.Cases.{all-cases, all_faults}
 use Rattle.joined.proofs.Joins.{joins}
 use Rattle.joined.proofs.Refused.{refused_ends}
 use Rattle.joined.proofs.Sides.{nothing_after}
@@ -19,5 +20,7 @@ returns c =
       joined = joins;
       after = nothing_after sha256;
       refused = refused_ends sha256;
+      cases = all-cases;
+      faults = all_faults;
       blameless = blameless sha256 length-sha256;
     }
