@@ -11,7 +11,8 @@ ghost use Rattle.soundness.specs.Sound.{SoundAlong, Sound, SoundAlongDrawn, Soun
 ghost use Rattle.joined.specs.Joined.{Joins};
 ghost use Rattle.joined.specs.Cases.{AllHold, cases, faults};
 ghost use Rattle.joined.specs.Refused.{RefusedEnds};
-ghost use Rattle.joined.specs.Sides.{NothingAfter};
+ghost use Rattle.joined.specs.Side.{JoinedIs};
+ghost use Rattle.joined.specs.Sides.{NothingAfter, SidesRun};
 
 use asking::Awaiting;
 use std::alloc::{AllocError, Global};
@@ -32,6 +33,8 @@ pub fn start_asker(heap: Global, task: Task, rounds: Rounds) -> Result<Awaiting,
     ensures along_enough { SoundAlongEnough }
     ensures enough { SoundEnough }
     ensures joined { Joins }
+    ensures runs { SidesRun sha256 }
+    ensures joins { JoinedIs }
     ensures after { NothingAfter sha256 }
     ensures refused { RefusedEnds sha256 }
     ensures cases { AllHold cases }

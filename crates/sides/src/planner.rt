@@ -11,7 +11,8 @@ ghost use Rattle.joined.specs.Answered.{Completes};
 ghost use Rattle.joined.specs.Cases.{AllHold, cases, faults};
 ghost use Rattle.joined.specs.Joined.{Joins};
 ghost use Rattle.joined.specs.Refused.{RefusedEnds};
-ghost use Rattle.joined.specs.Sides.{NothingAfter};
+ghost use Rattle.joined.specs.Side.{JoinedIs};
+ghost use Rattle.joined.specs.Sides.{NothingAfter, SidesRun};
 ghost use Rattle.blameless.specs.Blameless.{Blameless};
 
 use planning::Begun;
@@ -28,6 +29,8 @@ pub fn start_planner(heap: Global, task: Task, plan: Plan, rounds: Rounds) -> Re
     ensures hidden { Secrecy sha256 }
     ensures complete { Completes }
     ensures joined { Joins }
+    ensures runs { SidesRun sha256 }
+    ensures joins { JoinedIs }
     ensures after { NothingAfter sha256 }
     ensures refused { RefusedEnds sha256 }
     ensures cases { AllHold cases }

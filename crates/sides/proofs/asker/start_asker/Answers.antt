@@ -6,7 +6,7 @@ use Rattle.soundness.proofs.Shares.{sound-along-drawn, sound-drawn, sound-along-
 use Rattle.joined.proofs.Cases.{all-cases, all_faults}
 use Rattle.joined.proofs.Joins.{joins}
 use Rattle.joined.proofs.Refused.{refused_ends}
-use Rattle.joined.proofs.Sides.{nothing_after}
+use Rattle.joined.proofs.Sides.{joined_is, sides_run, nothing_after}
 use Rattle.sides.proofs.asker.start_asker.Goals as goal
 
 pub returns : goal.returns
@@ -23,6 +23,8 @@ returns c =
       along_enough = sound-along-enough;
       enough = sound-enough;
       joined = joins;
+      runs = sides_run sha256;
+      joins = joined_is;
       after = nothing_after sha256;
       refused = refused_ends sha256;
       cases = all-cases;

@@ -5,7 +5,7 @@ use Rattle.joined.proofs.Answered.{completes}
 use Rattle.joined.proofs.Cases.{all-cases, all_faults}
 use Rattle.joined.proofs.Joins.{joins}
 use Rattle.joined.proofs.Refused.{refused_ends}
-use Rattle.joined.proofs.Sides.{nothing_after}
+use Rattle.joined.proofs.Sides.{joined_is, sides_run, nothing_after}
 use Rattle.blameless.proofs.Clearing.{blameless}
 use Rattle.sides.proofs.planner.start_planner.Goals as goal
 
@@ -18,6 +18,8 @@ returns c =
       hidden = secret sha256 length-sha256;
       complete = completes;
       joined = joins;
+      runs = sides_run sha256;
+      joins = joined_is;
       after = nothing_after sha256;
       refused = refused_ends sha256;
       cases = all-cases;
