@@ -28,6 +28,7 @@ pub struct RoundWords<'a> {
     pub end: &'a [u8],
 }
 
+// The four one after the other, as `keeping` writes them: a method that gave them as a list would be longer than the four calls.
 fn add_words(h: &mut Hasher, words: RoundWords)
     ensures { (m : List ℕ) → Holds h.old m → Holds h.new (m ++ text_of words.entry) }
 {

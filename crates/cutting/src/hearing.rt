@@ -71,6 +71,7 @@ fn awaited(task: &Task, round: u32, awaits: Awaits, word: Vec<u8>) -> Result<Hea
     }
 }
 
+// Task, round and word one by one: two functions have them, this and `awaited`.
 // The word of this round for which this is awaited, or its fault. So the words of a showing are cut into rounds.
 pub fn hear(task: &Task, round: u32, awaits: Awaits, word: Vec<u8>) -> Result<Heard, Fault>
     ensures answer { gives heard_of result ≡ hear (task_of task.now) round (awaits_of awaits) word.items }

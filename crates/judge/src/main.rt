@@ -94,6 +94,7 @@ impl Program for TheJudge {
         let (plan, drawn) = handed_over.map(|names| (names.plan, names.drawn)).unzip();
         let plan = plan.map(|name| load_plan(rt, &task, name)).transpose()?;
         let drawn = drawn.map(|name| Drawn::open(rt, name)).transpose()?;
+        // a plan with a fault is none for the judge; the fault is told behind what the words say
         let (plan, faulty) = match plan.transpose() {
             Ok(plan) => (plan, None),
             Err(problem) => (None, Some(problem)),

@@ -80,7 +80,7 @@ impl Given<'_> {
         other_opening(pair, opened, &given.unwrap())
     }
 
-    // Fills the memory with the Boxes.
+    // Fills the memory with the Boxes. That there is room for them is an invariant of the judge, of whom these two have the memory alone.
     fn put_boxes(&self, memory: &mut [u8])
         requires { length memory.old ≡ 7 + 32 * self.now.closed.task.now.trains }
         ensures { drop 7 memory.new ≡ boxes_of sha256 self.now.closed.number 0 (held (plan_of self.now.plan.now) (order_of self.now.lot.order)) self.now.lot.chances.now }

@@ -33,6 +33,7 @@ fn numbers(plan: &Plan, order: &Order) -> [u8; 1024]
     numbers
 }
 
+// Plan, round and lot one by one, as `opened_word` has them and nothing else.
 // Writes the Boxes of the round to the front of `out`: a box for each train, with the number that the order gives its path. Where the chances are not 32 bytes
 // for each train, or there is no room, `out` stays as it is.
 pub fn write_boxes(plan: &Plan, round: u32, lot: &Lot, out: &mut [u8]) -> Option<usize>
