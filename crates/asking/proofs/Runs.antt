@@ -23,9 +23,11 @@ use Rattle.round.specs.Round.{test_opened}
 use Rattle.asking.specs.Asking.{Ready, led, turn, begun, on_task, is_opened_of, settled}
 use Rattle.round.specs.Line.{Event, sent, heard, Other, SaysBytes, Ran}
 use Rattle.asking.specs.Run.{Gone, going_on, asked, boxed, left_in, run}
-use Rattle.asking.specs.Conduct.{NoTask, Contents, Whole, no_task, own_task, ends1, Conducted, Conduct, kept, text, ends_by, From, all_rounds, drawn_out, no_boxes, end0, end1}
+use Rattle.round.specs.Contents.{Contents}
+use Rattle.asking.specs.Conduct.{NoTask, Whole, no_task, own_task, ends1, Conducted, Conduct, kept, text, ends_by, From, all_rounds, drawn_out, no_boxes, end0, end1}
 use Rattle.asking.proofs.Answered.{sound_of}
-use Rattle.asking.proofs.Refusals.{too_few, pair_there, task-refused, task-met, own_met, as_said, boxes-refused, boxes-met, refuses, contents}
+use Rattle.asking.proofs.Refusals.{too_few, pair_there, task-refused, task-met, own_met, as_said, boxes-refused, boxes-met, refuses}
+use Rattle.round.proofs.Contents.{contents}
 
 ends1-back : (events line : List Event) → ends1 (reverse_aux events line) ≡ ends1 events + ends1 line
 unfolding ends1

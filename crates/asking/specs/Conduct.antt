@@ -5,7 +5,7 @@ use Rattle.paths.specs.Plan.{Task, at}
 use Rattle.paths.specs.Show.{pair_at}
 use Rattle.tasks.specs.Reading.{got, refused}
 use Rattle.tasks.specs.Writing.{task_bytes}
-use Rattle.boxes.specs.Box.{Opening, text_of}
+use Rattle.boxes.specs.Box.{Opening}
 use Rattle.book.specs.Lengths.{round_text}
 use Rattle.book.specs.Chain.{after}
 use Rattle.lots.specs.Lots.{Had, question_in}
@@ -13,7 +13,8 @@ use Rattle.words.specs.Said.{Said, task, boxes, ask, opened, end}
 use Rattle.words.specs.Reading.{read_word}
 use Rattle.words.specs.Writing.{said_bytes, is_got}
 use Rattle.round.specs.Over.{Over, Outcome, content, fault, task_fault}
-use Rattle.round.specs.Round.{part_of, test_opened}
+use Rattle.round.specs.Contents.{Contents}
+use Rattle.round.specs.Round.{test_opened}
 use Rattle.asking.specs.Asking.{is_opened_of}
 use Rattle.round.specs.Line.{Event, sent, heard, Other, SaysBytes, Ran}
 use Rattle.asking.specs.Run.{asking}
@@ -33,26 +34,11 @@ pub data NoTask (t : Task) (w : List ℕ) : ℕ → Type 0 where
   other_task : read_word t w ≡ got (task w) → w ≢ task_bytes t → NoTask t w 4
 
 module _ (H : List ℕ → List ℕ) (t : Task) where
-  -- the openings x and y content an asker who asked for pair i in round n, where the Boxes had these digests: they are of the pair's trains, both boxes open,
-  -- and hold numbers of paths that are there, and not the same one
-  pub record Contents (n i : ℕ) (ds : List ℕ) (x y : Opening) : Type 0 where
-    pub first : x.train ≡ (pair_at t i).a
-    pub second : y.train ≡ (pair_at t i).e
-    pub first_opens : H (text_of n x) ≡ part_of ds x.train
-    pub second_opens : H (text_of n y) ≡ part_of ds y.train
-    pub first_there : x.number < t.paths
-    pub second_there : y.number < t.paths
-    pub different : x.number ≢ y.number
-
-  -- A word passes the test exactly if it is an Opened of this round that contents the asker
-  abbrev pub Exact : Type 0
-  Exact = (n i : ℕ) (ds : List ℕ) (v : Said) → Decides (is_got (test_opened H t n i ds v)) ((x y : Opening) × (v ≡ opened n x y) × Contents n i ds x y)
-
   -- why the bytes that come in answer are refused: they are no word, or not an Opened of this round that contents the asker; of the faults of a word that was
   -- read the lowest is told
   pub data NotContent (n i : ℕ) (ds w : List ℕ) : ℕ → Type 0 where
     unread : (f : ℕ) → read_word t w ≡ refused f → NotContent n i ds w f
-    bad : (v : Said) (f : ℕ) → read_word t w ≡ got v → ((x y : Opening) → v ≡ opened n x y → Contents n i ds x y → ⊥) → test_opened H t n i ds v ≡ refused f →
+    bad : (v : Said) (f : ℕ) → read_word t w ≡ got v → ((x y : Opening) → v ≡ opened n x y → Contents H t n i ds x y → ⊥) → test_opened H t n i ds v ≡ refused f →
         NotContent n i ds w f
 
   -- a refused answer is a word of the round in the book if it is an Opened of this round
@@ -79,7 +65,7 @@ module _ (H : List ℕ → List ℕ) (t : Task) where
         From r n drawn ws (heard (said_bytes (boxes n ds)) ∷ sent (said_bytes (ask n h.what)) ∷ heard w ∷ sent (said_bytes (end n false)) ∷ [])
         (ends_by (fault f n) (text n ds h.what (kept n w) false ∷ ws))
     end1 : (n : ℕ) (drawn : List ℕ) (ws : List (List ℕ)) (h : Had ℕ) (ds : List ℕ) (x y : Opening) (rest : List Event) (o : Over) → n < r →
-        question_in t drawn ≡ got h → h.what < length t.pairs → length ds ≡ 32 * t.trains → Contents n h.what ds x y →
+        question_in t drawn ≡ got h → h.what < length t.pairs → length ds ≡ 32 * t.trains → Contents H t n h.what ds x y →
         From r (n + 1) h.left (text n ds h.what (said_bytes (opened n x y)) true ∷ ws) rest o →
         From r n drawn ws (heard (said_bytes (boxes n ds)) ∷ sent (said_bytes (ask n h.what)) ∷ heard (said_bytes (opened n x y)) ∷ sent (said_bytes (end n true)) ∷ rest) o
 

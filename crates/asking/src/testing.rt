@@ -8,7 +8,7 @@ ghost use Rattle.words.specs.Reading.{read_word};
 ghost use Rattle.round.specs.Over.{leads};
 ghost use Rattle.round.specs.Round.{test_opened};
 ghost use Rattle.asking.specs.Asking.{is_opened_of, test, settle};
-ghost use Rattle.asking.specs.Conduct.{Exact};
+ghost use Rattle.round.specs.Contents.{Exact};
 ghost use Rattle.asking.specs.Model.{ready_of, asked_of, tested_of, counted};
 
 use super::asked::Asked;

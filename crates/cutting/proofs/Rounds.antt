@@ -1,24 +1,44 @@
 -- The laws of cutting. Assumes nothing.
-use Rattle.std.proofs.Common.{◌≡◌, ℕ, ◌+◌, List, ◌∷◌, refl, ap}
+use Rattle.std.proofs.Common.{◌≡◌, ℕ, ◌+◌, ◌^◌, ◌<◌, Bool, true, false, cond, List, [], ◌∷◌, sym, refl, ap, ◌∙◌, inl, inr}
 use Rattle.paths.specs.Plan.{Task}
-use Rattle.tasks.specs.Reading.{Got, got, refused}
-use Rattle.words.specs.Said.{Said}
+use Rattle.tasks.specs.Reading.{got}
+use Rattle.words.specs.Said.{boxes, ask, end}
 use Rattle.words.specs.Reading.{read_word}
-use Rattle.cutting.specs.Cutting.{for_boxes, for_nothing, hear, behind, fault_in, cut_on, cut_from}
-use Rattle.cutting.specs.Laws.{Cuts}
+use Rattle.cutting.specs.Cutting.{Round, for_boxes, for_nothing, behind, cut_into, also_round, cut_from, if_any, onto, all_words}
+use Rattle.cutting.specs.Laws.{round_from, IsRound, AreRounds, none, last, more, Cuts}
 use Rattle.cutting.proofs.Cuts.{cut-whole, cut_short_lem}
-use Rattle.cutting.proofs.Shapes.{shapes}
+use Rattle.cutting.proofs.Shapes.{some, over, shapes}
 
-nothing_heard : (t : Task) (n : ℕ) (w : List ℕ) → (f : ℕ) × (hear t n for_nothing w ≡ refused f)
-nothing_heard t n w = go (read_word t w) refl
-  where
-    go : (g : Got Said) → read_word t w ≡ g → (f : ℕ) × (hear t n for_nothing w ≡ refused f)
-    go (got x) e = (6, rw e refl)
-    go (refused f) e = (f, rw e refl)
+module _ (t : Task) where
+  -- a round without an Opened
+  short : (n : ℕ) → n < 2 ^ 24 → (b ds a : List ℕ) (i : ℕ) (o e : List ℕ) (c : Bool) → read_word t b ≡ got (boxes n ds) → read_word t a ≡ got (ask n i) → o ≡ [] → c ≡ false →
+      read_word t e ≡ got (end n c) → (ws : List (List ℕ)) →
+      cut_from t n for_boxes (b ∷ a ∷ if_any o (e ∷ ws)) ≡ also_round (round_from b a i o e c) (cut_from t (n + 1) (cond c for_boxes for_nothing) ws)
+  short n few b ds a i [] e false rb ra p q re ws = cut_short_lem t n few b ds a i rb ra e re ws
+  short n few b ds a i [] e true rb ra p q re ws = cc
+  short n few b ds a i (x ∷ xs) e c rb ra p q re ws = cc
 
-over : (t : Task) (n : ℕ) (w : List ℕ) (ws : List (List ℕ)) → (f : ℕ) × (cut_from t n for_nothing (w ∷ ws) ≡ fault_in f n)
-unfolding cut_from
-over t n w ws = let h = nothing_heard t n w in (h.0, ap (λ g. cut_on n g (λ b. cut_from t n b ws) (λ r. cut_from t (n + 1) (behind r) ws)) h.1)
+  one : (n : ℕ) (r : Round) → IsRound t n r → (ws : List (List ℕ)) → cut_from t n for_boxes (onto r ws) ≡ also_round r (cut_from t (n + 1) (behind r) ws)
+  one n r h ws =
+      let b = h.boxes_are in
+      elim h.answer_is [
+        | inl o ↦ ap (λ vs. cut_from t n for_boxes (r.asked.boxes ∷ r.asked.ask ∷ vs)) (sym (some t n r.opened (r.end ∷ ws) o))
+            ∙ cut-whole t n h.few _ b.0 _ _ b.1 h.ask_is _ r.opened o.0 o.1 r.content o.2 h.end_is ws
+        | inr q ↦ short n h.few _ b.0 _ _ r.opened _ r.content b.1 h.ask_is q.0 q.1 h.end_is ws
+      ]
+
+  nothing_left : (n : ℕ) (c : Bool) → cut_from t n (cond c for_boxes for_nothing) [] ≡ cut_into []
+  unfolding cut_from
+  nothing_left n true = refl
+  nothing_left n false = refl
+
+  -- the words of rounds are cut into these rounds
+  back : (n : ℕ) (rs : List Round) → AreRounds t n rs → cut_from t n for_boxes (all_words rs) ≡ cut_into rs
+  unfolding all_words
+  back n _ (none m) = nothing_left n true
+  back n _ (last m r h) = one n r h [] ∙ ap (also_round r) (nothing_left (n + 1) r.content)
+  back n _ (more m r rs h c k) = one n r h (all_words rs)
+      ∙ ap (λ x. also_round r (cut_from t (n + 1) (cond x for_boxes for_nothing) (all_words rs))) c ∙ ap (also_round r) (back (n + 1) rs k)
 
 pub cuts : (t : Task) → Cuts t
 cuts t =
@@ -27,4 +47,6 @@ cuts t =
       short = λ n few b ds a i e rb ra re ws. cut_short_lem t n few b ds a i rb ra e re ws;
       over = over t;
       all = λ ws rs e. (shapes t ws 0 for_boxes rs tt e).words_are;
+      are = λ ws rs e. (shapes t ws 0 for_boxes rs tt e).rounds_are;
+      back = back t 0;
     }

@@ -16,7 +16,7 @@ use Rattle.book.proofs.Uses.{round-long}
 use Rattle.cutting.specs.Cutting.{Round, text_of, for_boxes, all_words}
 use Rattle.judging.specs.Binding.{WordsBind, NoOtherWords}
 use Rattle.judging.proofs.Passes.{honest_cut}
-use Rattle.cutting.proofs.Shapes.{RoundLong, shapes}
+use Rattle.cutting.proofs.Shapes.{RoundLong, shapes, all_long}
 use Rattle.judging.proofs.Telling.{book-first}
 
 -- a text tells its words, where the lengths are known
@@ -39,12 +39,12 @@ module _ (t : Task) where
       let x : text_of r ≡ text_of s = cc in
       let xs : map text_of rs ≡ map text_of ss = cc in
       let w = parts r.asked.boxes r.asked.ask r.opened r.end s.asked.boxes s.asked.ask s.opened s.end
-      (p.asked_are.boxes_are ∙ sym q.asked_are.boxes_are) (p.asked_are.ask_is ∙ sym q.asked_are.ask_is) (p.end_is ∙ sym q.end_is) x in
+      (p.boxes_are ∙ sym q.boxes_are) (p.ask_is ∙ sym q.ask_is) (p.end_is ∙ sym q.end_is) x in
       let ih = same-words rs ss ps qs xs in
       rw (w.0, w.1, w.2, w.3, ih) refl
 
   long-round : 1 ≤ t.trains → (r : Round) → RoundLong t r → RoundText (text_of r)
-  long-round h r p = round-long t.trains r.asked.boxes r.asked.ask r.opened r.end h p.asked_are.boxes_are p.asked_are.ask_is (opened_as p.opened_is) p.end_is
+  long-round h r p = round-long t.trains r.asked.boxes r.asked.ask r.opened r.end h p.boxes_are p.ask_is (opened_as p.opened_is) p.end_is
     where
       opened_as : (length r.opened ≡ 75) ⊎ (r.opened ≡ []) → (length r.opened ≡ 75) ⊎ (length r.opened ≡ 0)
       opened_as (inl l) = inl l
@@ -67,14 +67,16 @@ pub words_bind : (H : List ℕ → List ℕ) → Sized H → WordsBind H
 words_bind H sized t u s v ws vs rs ss e f same =
     let x = shapes t ws 0 for_boxes rs tt e in
     let y = shapes u vs 0 for_boxes ss tt f in
-    let a = all-texts t (guarantees t s).some_train rs [] x.rounds_are tt in
-    let b = all-texts u (guarantees u v).some_train ss [] y.rounds_are tt in
+    let rs_long = all_long t 0 rs x.rounds_are in
+    let ss_long = all_long u 0 ss y.rounds_are in
+    let a = all-texts t (guarantees t s).some_train rs [] rs_long tt in
+    let b = all-texts u (guarantees u v).some_train ss [] ss_long tt in
     elim (binds H sized (task_bytes t) (task_bytes u) (reverse (map text_of rs)) (reverse (map text_of ss)) (task-text t s) (task-text u v) a b same) [
       | inl c ↦ inl c
       | inr q ↦
           let k = same-task t u s v q.0 in
-          let long : All (RoundLong t) ss = subst (λ z. All (RoundLong z) ss) (sym k) y.rounds_are in
-          inr (k, x.words_are ∙ same-words t rs ss x.rounds_are long (same-reverse _ _ q.1) ∙ sym y.words_are)
+          let long : All (RoundLong t) ss = subst (λ z. All (RoundLong z) ss) (sym k) ss_long in
+          inr (k, x.words_are ∙ same-words t rs ss rs_long long (same-reverse _ _ q.1) ∙ sym y.words_are)
     ]
 
 pub no_other-words : (H : List ℕ → List ℕ) → Sized H → NoOtherWords H

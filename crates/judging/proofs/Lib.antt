@@ -6,3 +6,4 @@ pub mod Telling
 pub mod Passes
 pub mod Binds
 pub mod Redraws
+pub mod Contents

@@ -7,3 +7,4 @@ pub mod Laws
 pub mod Honest
 pub mod Binding
 pub mod Redrawing
+pub mod Contents

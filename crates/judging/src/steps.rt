@@ -12,6 +12,7 @@ ghost use Rattle.judging.specs.Steps.{begin, tested_if_any, start, closing, step
 ghost use Rattle.judging.specs.Model.{judge_of, goes};
 ghost use Rattle.judging.specs.Laws.{Folds, FrontServes, BookFirst};
 ghost use Rattle.judging.specs.Honest.{HonestPasses};
+ghost use Rattle.judging.specs.Contents.{TellsContent};
 ghost use Rattle.judging.specs.Redrawing.{TellsDifference};
 ghost use Rattle.judging.specs.Binding.{WordsBind, NoOtherWords};
 
@@ -135,7 +136,7 @@ impl Judge {
         }
     }
 
-    // Told apart from `end`, whose seven laws would have to be shown at each of these answers.
+    // Told apart from `end`, whose eight laws would have to be shown at each of these answers.
     fn tell(&self, digest: [u8; 32]) -> Verdict
         ensures { verdict_of result ≡ finish (judge_of self.now) digest }
     {
@@ -155,6 +156,7 @@ impl Judge {
         ensures folds { Folds sha256 }
         ensures serves { FrontServes sha256 }
         ensures book_first { BookFirst sha256 }
+        ensures content { TellsContent sha256 }
         ensures differs { TellsDifference sha256 }
         ensures honest { HonestPasses sha256 }
         ensures bind { WordsBind sha256 }

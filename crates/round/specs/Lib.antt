@@ -1,3 +1,4 @@
 pub mod Round
 pub mod Over
 pub mod Line
+pub mod Contents

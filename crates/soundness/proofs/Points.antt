@@ -21,8 +21,8 @@ use Rattle.round.specs.Line.{Event, Other}
 use Rattle.round.specs.Round.{part_of}
 use Rattle.round.proofs.Rounds.{rising_in}
 use Rattle.asking.specs.Asking.{Ready}
-use Rattle.asking.specs.Conduct.{Contents}
-use Rattle.asking.proofs.Refusals.{contents}
+use Rattle.round.specs.Contents.{Contents}
+use Rattle.round.proofs.Contents.{contents}
 use Rattle.soundness.specs.Texts.{says, answer, accepted, openings_of, openings, of_train, twos, texts_at}
 use Rattle.soundness.proofs.Runs.{accepts}
 use Rattle.soundness.proofs.Hits.{hit, hit_more, hit_append}
