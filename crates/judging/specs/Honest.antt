@@ -1,4 +1,4 @@
--- The words of a showing by an honest planner, and what is promised of them. H is any function in the place of SHA-256. Assumes nothing.
+-- The words of a showing with an honest planner, as either side may have kept them, and what is promised of them. H is any function in the place of SHA-256. Assumes nothing.
 use Rattle.std.specs.Prelude.{◌≡◌, ℕ, ◌+◌, ◌^◌, ◌<◌, ◌≤◌, Bool, true, false, List, [], ◌∷◌, reverse, length, Some}
 use Rattle.paths.specs.Plan.{Task, Plan, fits, all_below}
 use Rattle.tasks.specs.Reading.{got, refused}
@@ -29,7 +29,7 @@ module _ (H : List ℕ → List ℕ) (t : Task) (p : Plan) where
   end_word n c = said_bytes (end n c)
 
   -- The words from round n on, where these drawn bytes are left: each round's lot is drawn from them, and any pair may be asked for. The last round may end with
-  -- 0, over its Opened or without one. With the texts of the rounds, and what is to be found of the asker's content
+  -- 0, over its Opened or, as an asker has it to whom no answer came, without one. With the texts of the rounds, and what is to be found of the asker's content
   pub data Honest : ℕ → List ℕ → List (List ℕ) → List (List ℕ) → Content → Type 0 where
     over : (n : ℕ) (drawn : List ℕ) → Honest n drawn [] [] content_all
     round1 : (n : ℕ) (drawn : List ℕ) (h : Had Lot) (i : ℕ) (ws texts : List (List ℕ)) (c : Content) → lot_in t drawn ≡ got h → i < length t.pairs →
