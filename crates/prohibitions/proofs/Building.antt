@@ -1,6 +1,7 @@
 -- The pairs that were listed and put are those of the built task, and what it then guarantees.
-use Rattle.std.proofs.Common.{◌≡◌, ◌+◌, ◌≤◌, true, List, [], ◌∷◌, ◌++◌, map, length, vec_items, vec_len, Vec, sym, refl, ap, ◌∙◌, subst, arith}
+use Rattle.std.proofs.Common.{◌≡◌, ◌+◌, ◌≤◌, true, List, [], ◌∷◌, ◌++◌, map, length, vec_items, Vec, sym, refl, ap, ◌∙◌, subst, arith}
 use lib.ListN.{length-map}
+use Rattle.std.proofs.lemmas.Bool.Decides.{nat_tests}
 use Rattle.paths.specs.Plan.{Pair, Task}
 use Rattle.tasks.specs.declared.pair.Pair.{Pair as CodePair}
 use Rattle.prohibitions.specs.declared.prohibiting.Prohibition.{Prohibition}
@@ -8,13 +9,13 @@ use Rattle.tasks.specs.Pair.{pair_of}
 use Rattle.std.specs.declared.alloc.Global.{Global}
 use Rattle.tasks.specs.declared.task.Task.{Task as CodeTask}
 use Rattle.tasks.specs.Model.{task_of}
-use Rattle.prohibitions.specs.Prohibiting.{put_all, every_two, pair_for, built, named, Fixes}
+use Rattle.prohibitions.specs.Prohibiting.{put_all, every_two, pair_for, built, can_build, named, Fixes}
 use Rattle.tasks.specs.Task.{sound}
 use Rattle.prohibitions.proofs.Prohibits.{fixes}
 use Rattle.prohibitions.proofs.Puts.{built-sound}
 use Rattle.tasks.proofs.TaskLaws.{Guarantees, guarantees, sound_from}
 
-put_all-append : (xs ys zs : List Pair) → put_all (xs ++ ys) zs ≡ put_all ys (put_all xs zs)
+pub put_all-append : (xs ys zs : List Pair) → put_all (xs ++ ys) zs ≡ put_all ys (put_all xs zs)
 unfolding put_all
 put_all-append [] ys zs = refl
 put_all-append (x ∷ xs) ys zs = put_all-append xs ys _
@@ -45,19 +46,22 @@ is_sound t =
       rises = t.rising_pairs;
     })
 
+can-parts : (t : Task) (bs : List Prohibition) → can_build t bs ≡ true → (t.trains + t.paths ≤ 1024) × (named t bs ≡ true) × (length (built t bs).pairs ≤ 4096)
+can-parts t bs e = grind (arith, nat_tests)
+
 -- the built task, of which the pairs are kept as v
-module _ (t : CodeTask) (bs : List Prohibition) (v : Vec CodePair Global) (h : t.trains + t.paths ≤ 1024) (b : (named (task_of t) bs ≡ true) × (map pair_of (vec_items v) ≡ (built (task_of t) bs).pairs) × (vec_len v ≤ 4096)) where
-  few : length (built (task_of t) bs).pairs ≤ 4096
-  few = omega (arith, length-map (vec_items v) pair_of, v.ok.0, ap length b.1, b.2)
+module _ (t : CodeTask) (bs : List Prohibition) (v : Vec CodePair Global) (b : can_build (task_of t) bs ≡ true) (e : map pair_of (vec_items v) ≡ (built (task_of t) bs).pairs) where
+  p : (t.trains + t.paths ≤ 1024) × (named (task_of t) bs ≡ true) × (length (built (task_of t) bs).pairs ≤ 4096)
+  p = can-parts (task_of t) bs b
 
   abbrev kept : Task
   kept = record { trains = t.trains + t.paths; paths = t.paths; pairs = map pair_of (vec_items v) }
 
   same : kept ≡ built (task_of t) bs
-  same = ap (λ xs. record { trains = t.trains + t.paths; paths = t.paths; pairs = xs }) b.1
+  same = ap (λ xs. record { trains = t.trains + t.paths; paths = t.paths; pairs = xs }) e
 
   pub build_guarantees : Guarantees kept
-  build_guarantees = guarantees kept (ap sound same ∙ built-sound (task_of t) bs (is_sound t) b.0 h few)
+  build_guarantees = guarantees kept (ap sound same ∙ built-sound (task_of t) bs (is_sound t) p.1 p.0 p.2)
 
   pub build_fixes : Fixes (task_of t) bs kept
-  build_fixes = subst (λ (u : Task). Fixes (task_of t) bs u) (sym same) (fixes (task_of t) bs (is_sound t) b.0)
+  build_fixes = subst (λ (u : Task). Fixes (task_of t) bs u) (sym same) (fixes (task_of t) bs (is_sound t) p.1)

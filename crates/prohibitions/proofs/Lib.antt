@@ -5,3 +5,4 @@ pub mod Places
 pub mod Prohibits
 pub mod Adding
 pub mod Building
+pub mod Counting

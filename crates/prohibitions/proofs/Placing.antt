@@ -1,5 +1,5 @@
 -- A pair finds its place among pairs in rising order: where it is there already, and else between those that come before it and those that come after it.
-use Rattle.std.proofs.Common.{◌≡◌, ℕ, zero, suc, ◌+◌, ◌<◌, ◌≤◌, true, false, List, [], ◌∷◌, ◌++◌, map, length, get_or, take, drop, sym, refl, ap, ◌∙◌, add-one, arith, length-append, length-drop, length-take}
+use Rattle.std.proofs.Common.{◌≡◌, ℕ, zero, suc, ◌+◌, ◌<◌, ◌≤◌, true, false, List, [], ◌∷◌, ◌++◌, map, length, get_or, take, drop, sym, refl, ap, ◌∙◌, add-one, arith}
 use mathlib.Core.List.{map-append}
 use lib.ListN.{length-map}
 use Rattle.std.specs.Ordering.{nat_cmp, ordering_then, ordering_index, is_lt}
@@ -37,7 +37,7 @@ equal : (x y : CodePair) → compared x y ≡ Equal → pair_of x ≡ pair_of y
 equal x y e = same_pair (pair_of x) y.first y.second (grind (arith, nat_tests)) (grind (arith, nat_tests))
 
 -- pairs in order
-order-rest : (y : Pair) (ys : List Pair) → in_order_after y ys ≡ true → in_order ys ≡ true
+pub order-rest : (y : Pair) (ys : List Pair) → in_order_after y ys ≡ true → in_order ys ≡ true
 unfolding in_order_after
 order-rest y [] o = refl
 order-rest y (z ∷ zs) o = grind arith
@@ -115,9 +115,6 @@ module _ (x : CodePair) (xs ys : List CodePair) (same : ys ≡ xs) (o : in_order
   put_found i l e = sym (put-there (pair_of x) all i (pair_of x) o (omega (arith, length-map xs pair_of, ap length same)) (its i x l ∙ equal _ _ (e x)))
 
   module _ (i : ℕ) (l : i ≤ length ys) (split : IsNonDecreasingBy (λ y. ordering_index (compared y x)) ys → IsPartitionPoint (λ y. compared y x ≡ Less) (λ y. compared y x ≡ Greater) ys i) where
-    pub put-within : i ≤ length xs
-    put-within = omega (arith, ap length same)
-
     pub put_made : map pair_of (take i xs ++ x ∷ drop i xs) ≡ put (pair_of x) all
     put_made =
         let parts = split ranks in
@@ -127,6 +124,3 @@ module _ (x : CodePair) (xs ys : List CodePair) (same : ys ≡ xs) (o : in_order
         (λ k a. ap (λ y. before y (pair_of x)) (its k x (omega arith)) ∙ less (get_or ys k x) x (parts.0 k x (omega arith) a))
         (λ k a b. ap (before (pair_of x)) (its k x (omega (arith, ap length same))) ∙ greater (get_or ys k x) x (parts.1 k x a (omega (arith, ap length same)))) in
         simp (map-append, ← take-map, ← drop-map) (sym p)
-
-    pub put_longer : length (put (pair_of x) all) ≡ length xs + 1
-    put_longer = ap length (sym put_made) ∙ (length-map (take i xs ++ x ∷ drop i xs) pair_of ∙ simp (length-append, length-take, length-drop) (omega (arith, put-within)))

@@ -46,10 +46,13 @@ unfoldable pub named : Task → List Prohibition → Bool
 named t [] = true
 named t (b ∷ bs) = is_named t b && named t bs
 
+-- each prohibition is named, and the built task has not too many trains or pairs
+abbrev pub can_build : Task → List Prohibition → Bool
+can_build t bs = nat_le (t.trains + t.paths) 1024 && named t bs && nat_le (length (built t bs).pairs) 4096
+
 -- what is built of a task and prohibitions: fault 2 where a train or a path isn't there, or the built task has too many trains or pairs
 abbrev pub prohibit : Task → List Prohibition → Got Task
-prohibit t bs =
-    cond (nat_le (t.trains + t.paths) 1024 && named t bs && nat_le (length (built t bs).pairs) 4096) (got (built t bs)) (refused 2)
+prohibit t bs = cond (can_build t bs) (got (built t bs)) (refused 2)
 
 -- no train has a path that it may not use
 unfoldable pub keeps : List Prohibition → Plan → Bool

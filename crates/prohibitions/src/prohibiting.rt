@@ -1,10 +1,11 @@
-// Trains that may not use some path: the task is built anew, with a train more for each path.
-ghost use Rattle.std.specs.Prelude.{◌≡◌, ◌+◌, ◌≤◌, true, map, IfOk, vec_len};
+// Trains that may not use some path: the task is built anew, with a train more for each path. All is looked at before anything is kept, so that a fault is told
+// even where memory is wanting.
+ghost use Rattle.std.specs.Prelude.{◌≡◌, ◌+◌, ◌≤◌, [], true, map, length, IfOk, ◌++◌};
 ghost use Rattle.tasks.specs.Model.{task_of};
 ghost use Rattle.tasks.specs.Pair.{pair_of};
-ghost use Rattle.prohibitions.specs.Prohibiting.{Fixes, prohibit, put, put_all, with_each, every_two};
-ghost use Rattle.tasks.specs.Reading.{Answers};
-ghost use Rattle.prohibitions.specs.Putting.{in_order, Putting, Adding, Named, Prohibiting, BuiltPairs};
+ghost use Rattle.tasks.specs.Reading.{Meets};
+ghost use Rattle.prohibitions.specs.Prohibiting.{Fixes, prohibit, built, can_build, is_named, named, pair_for, put, put_all, with_each, every_two};
+ghost use Rattle.prohibitions.specs.Putting.{in_order, Makes, different_after};
 
 use std::alloc::{AllocError, Global};
 use tasks::{Fault, MOST_PAIRS, MOST_TRAINS, Pair, Task};
@@ -16,26 +17,67 @@ pub struct Prohibition {
     pub path: u8,
 }
 
+// Does it name a train and a path that are there?
+fn is_named(task: &Task, prohibition: Prohibition) -> bool
+    ensures { result ≡ is_named (task_of task.now) prohibition }
+{
+    prohibition.train < task.trains && prohibition.path < task.paths
+}
+
+fn all_named(task: &Task, prohibitions: &[Prohibition]) -> bool
+    ensures { result ≡ named (task_of task.now) prohibitions.now }
+{
+    prohibitions
+        .iter()
+        .all(|prohibition| is_named(task, *prohibition))
+}
+
+// How many different ones these are: each is counted where it stands first.
+fn count_different(prohibitions: &[Prohibition]) -> usize
+    ensures different { result ≡ different_after [] prohibitions.now }
+    ensures most { result ≤ length prohibitions.now }
+{
+    let mut count = 0;
+    for (i, prohibition) in prohibitions.iter().enumerate() {
+        if !prohibitions[..i].contains(prohibition) {
+            count += 1;
+        }
+    }
+    count
+}
+
+// How many pairs the built task has: those of the task, every two of the trains that are added, and one for each different prohibition.
+fn count_pairs(task: &Task, prohibitions: &[Prohibition]) -> usize
+    requires { named (task_of task.now) prohibitions.now ≡ true }
+    ensures { result ≡ length (built (task_of task.now) prohibitions.now).pairs }
+{
+    let paths = task.paths as usize;
+    task.pairs.len() + paths * (paths - 1) / 2 + count_different(prohibitions)
+}
+
+fn can_build(task: &Task, prohibitions: &[Prohibition]) -> bool
+    ensures { result ≡ can_build (task_of task.now) prohibitions.now }
+{
+    task.trains + task.paths as u16 <= MOST_TRAINS
+        && all_named(task, prohibitions)
+        && count_pairs(task, prohibitions) <= MOST_PAIRS as usize
+}
+
 // Puts a pair at its place among pairs in rising order, unless it is there.
-fn put(pairs: &mut Vec<Pair>, pair: Pair) -> Result<(), Fault>
-    requires few { vec_len pairs.old ≤ 4096 }
-    requires order { in_order (map pair_of pairs.old.items) ≡ true }
-    ensures { Putting (put (pair_of pair)) pairs.old.items pairs.new.items result }
+fn put(pairs: &mut Vec<Pair>, pair: Pair) -> Result<(), AllocError>
+    requires { in_order (map pair_of pairs.old.items) ≡ true }
+    ensures { Makes (put (pair_of pair)) pairs.old.items pairs.new.items result }
 {
     let Err(place) = pairs.binary_search(&pair) else {
         return Ok(());
     };
-    if pairs.len() >= MOST_PAIRS as usize {
-        return Err(Fault::Range);
-    }
     pairs.insert(place, pair)?;
     Ok(())
 }
 
-fn put_all(pairs: &mut Vec<Pair>, more: &[Pair]) -> Result<(), Fault>
-    requires few { vec_len pairs.old ≤ 4096 }
-    requires order { in_order (map pair_of pairs.old.items) ≡ true }
-    ensures { Putting (put_all (map pair_of more.now)) pairs.old.items pairs.new.items result }
+fn put_all(pairs: &mut Vec<Pair>, more: &[Pair]) -> Result<(), AllocError>
+    requires { in_order (map pair_of pairs.old.items) ≡ true }
+    ensures { Makes (put_all (map pair_of more.now)) pairs.old.items pairs.new.items result }
 {
     for pair in more {
         put(pairs, *pair)?;
@@ -47,7 +89,7 @@ fn put_all(pairs: &mut Vec<Pair>, more: &[Pair]) -> Result<(), Fault>
 // The j-th of the trains from `from` on, with each before it.
 fn add_with_each(more: &mut Vec<Pair>, from: u16, j: u8) -> Result<(), AllocError>
     requires { from + j ≤ 1024 }
-    ensures { Adding (with_each from j j) more.old.items more.new.items result }
+    ensures { Makes (λ ys. ys ++ with_each from j j) more.old.items more.new.items result }
 {
     for i in 0..j {
         more.push(Pair {
@@ -61,7 +103,7 @@ fn add_with_each(more: &mut Vec<Pair>, from: u16, j: u8) -> Result<(), AllocErro
 // Every two of `count` trains from `from` on.
 fn add_every_two(more: &mut Vec<Pair>, from: u16, count: u8) -> Result<(), AllocError>
     requires { from + count ≤ 1024 }
-    ensures { Adding (every_two from count) more.old.items more.new.items result }
+    ensures { Makes (λ ys. ys ++ every_two from count) more.old.items more.new.items result }
 {
     for j in 0..count {
         add_with_each(more, from, j)?;
@@ -70,35 +112,36 @@ fn add_every_two(more: &mut Vec<Pair>, from: u16, count: u8) -> Result<(), Alloc
 }
 
 // A train that may not use some path, with the train that was added for the path.
-fn prohibited(task: &Task, prohibition: Prohibition) -> Option<Pair>
-    ensures { Named (task_of task.now) prohibition result }
+fn prohibited(task: &Task, prohibition: Prohibition) -> Pair
+    ensures { pair_of result ≡ pair_for task.now.trains prohibition }
 {
-    if prohibition.train >= task.trains || prohibition.path >= task.paths {
-        return None;
-    }
-    Some(Pair {
+    Pair {
         first: prohibition.train,
         second: task.trains + prohibition.path as u16,
-    })
+    }
 }
 
 fn add_prohibited(
     more: &mut Vec<Pair>,
     task: &Task,
     prohibitions: &[Prohibition],
-) -> Result<(), Fault>
-    ensures { Prohibiting (task_of task.now) prohibitions.now more.old.items more.new.items result }
+) -> Result<(), AllocError>
+    ensures { Makes (λ ys. ys ++ map (pair_for task.now.trains) prohibitions.now) more.old.items more.new.items result }
 {
     for prohibition in prohibitions {
-        more.push(prohibited(task, *prohibition).ok_or(Fault::Range)?)?;
+        more.push(prohibited(task, *prohibition))?;
     }
     Ok(())
 }
 
 // The pairs of the built task.
-fn built_pairs(heap: Global, task: &Task, prohibitions: &[Prohibition]) -> Result<Vec<Pair>, Fault>
+fn built_pairs(
+    heap: Global,
+    task: &Task,
+    prohibitions: &[Prohibition],
+) -> Result<Vec<Pair>, AllocError>
     requires { task.now.trains + task.now.paths ≤ 1024 }
-    ensures { BuiltPairs (task_of task.now) prohibitions.now result }
+    ensures { IfOk result (λ v. map pair_of v.items ≡ (built (task_of task.now) prohibitions.now).pairs) }
 {
     let mut more = Vec::new(heap);
     add_every_two(&mut more, task.trains, task.paths)?;
@@ -115,16 +158,15 @@ pub fn with_prohibitions(
     task: &Task,
     prohibitions: &[Prohibition],
 ) -> Result<Task, Fault>
-    ensures answer { Answers task_of result (prohibit (task_of task.now) prohibitions.now) }
+    ensures answer { Meets task_of result (prohibit (task_of task.now) prohibitions.now) }
     ensures fixes { IfOk result (λ u. Fixes (task_of task.now) prohibitions.now (task_of u)) }
 {
-    let trains = task.trains + task.paths as u16;
-    if trains > MOST_TRAINS {
+    if !can_build(task, prohibitions) {
         return Err(Fault::Range);
     }
     let pairs = built_pairs(heap, task, prohibitions)?;
     Ok(Task {
-        trains,
+        trains: task.trains + task.paths as u16,
         paths: task.paths,
         pairs,
     })
