@@ -5,6 +5,7 @@ pub mod Paired
 pub mod Coins
 pub mod Seen
 pub mod Alike
+pub mod Simulated
 pub mod Content
 pub mod Counts
 pub mod Caught

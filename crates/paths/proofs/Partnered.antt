@@ -3,8 +3,8 @@ use Rattle.std.proofs.Common.{◌≡◌, ℕ, zero, suc, ◌+◌, ◌<◌, ◌�
 use Rattle.std.proofs.lemmas.List.{ext_get_or, get_or-take, length-take-le}
 use denote.Param.Members.{Mut, Called}
 use Rattle.std.specs.Array.{IsFromFnResult, IsFromFnResultFrom}
-use Rattle.std.proofs.lemmas.Bool.{cases_eq, and_parts, and_from, ltb-true, lt-ltb, not-true, ne_eqb, eqb-false}
-use Rattle.paths.specs.Plan.{Task, at, all_below, apart, pairs_in, different, fits}
+use Rattle.std.proofs.lemmas.Bool.{cases_eq, and_parts, and_from, ltb-true, not-true, eqb-false}
+use Rattle.paths.specs.Plan.{Task, at, all_below, different}
 use Rattle.paths.specs.Cheat.{up_to}
 use Rattle.paths.specs.Promise.{IsCoin}
 use Rattle.paths.specs.Order.{none_twice}
@@ -48,24 +48,19 @@ two-says k t e =
     let q = and_parts (ltb t.first k) (ltb t.second k) p.0 in
     record { first = ltb-true _ _ q.0; second = ltb-true _ _ q.1; differ = eqb-false _ _ (not-true _ p.1) }
 
--- a task of two trains that may not share a path, which has the two paths as a plan that fits
+-- a task of two trains that may not share a path, which has the two paths as a plan
 abbrev duo : ℕ → Task
 duo k = record { trains = 2; paths = k; pairs = record { a = 0; e = 1 } ∷ [] }
 
-duo-fits : (k : ℕ) (t : TwoPaths) → Two k t → T (fits (duo k) (t.first ∷ t.second ∷ []))
-unfolding all_below apart
-duo-fits k t h = rw (lt-ltb _ _ h.first, lt-ltb _ _ h.second, ne_eqb _ _ h.differ) tt
-
 module _ (p : Partners) (xs : List ℕ) (from : are_two (length xs) p.from ≡ true) (to : are_two (length xs) p.to ≡ true) where
   row_paired : none_twice (length xs) xs ≡ true → none_twice (length xs) (paired_by p xs) ≡ true
-  unfolding pairs_in all_below
+  unfolding all_below
   row_paired r =
       let f = two-says (length xs) p.from from in
       let t = two-says (length xs) p.to to in
       let s = and_parts (different xs) (all_below (length xs) xs) r in
-      let some : 0 < length xs = omega (arith, f.first) in
       let coin : IsCoin (duo (length xs)) (record { order = xs; chances = 0 ∷ 0 ∷ [] }) = (refl, rw s.0 tt, rw s.1 tt, refl, tt) in
-      let c = coin_fits (duo (length xs)) (tt, omega arith, some) 0 (omega arith) (p.to.first ∷ p.to.second ∷ []) (p.from.first ∷ p.from.second ∷ []) (duo-fits _ _ t) (duo-fits _ _ f) (record { order = xs; chances = 0 ∷ 0 ∷ [] }) coin in
+      let c = coin_fits (duo (length xs)) 0 (p.to.first ∷ p.to.second ∷ []) (p.from.first ∷ p.from.second ∷ []) (t.differ, t.first, t.second) (f.differ, f.first, f.second) (record { order = xs; chances = 0 ∷ 0 ∷ [] }) coin in
       and_from _ _ (true_is _ c.1) (true_is _ c.2)
 
 -- of an order ys of k paths, which the code has as xs, and the numbers rs that it made

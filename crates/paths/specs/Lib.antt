@@ -4,6 +4,7 @@ pub mod Cheat
 pub mod Promise
 pub mod Pairing
 pub mod Paired
+pub mod Simulated
 pub mod Stop
 pub mod Clip
 pub mod Count

@@ -24,11 +24,15 @@ beta_at t p q i = beta (at q (pair_at t i).a) (at q (pair_at t i).e) (at p (pair
 abbrev pub pair_coin : Task → Plan → Plan → ℕ → Coin → Coin
 pair_coin t p q i c = record { order = map (λ x. at c.order (beta_at t p q i x)) (up_to t.paths); chances = c.chances }
 
--- the same round by round; coins of rounds in which nothing is asked for stay
-unfoldable pub pair_coins : Task → Plan → Plan → List ℕ → List Coin → List Coin
-pair_coins t p q is [] = []
-pair_coins t p q [] (c ∷ cs) = c ∷ cs
-pair_coins t p q (i ∷ is) (c ∷ cs) = pair_coin t p q i c ∷ pair_coins t p q is cs
+-- each of these changed by the question of its round, and those of rounds in which nothing is asked for stay
+unfoldable pub by_question : {A : Type 0} → (ℕ → A → A) → List ℕ → List A → List A
+by_question f is [] = []
+by_question f [] (x ∷ xs) = x ∷ xs
+by_question f (i ∷ is) (x ∷ xs) = f i x ∷ by_question f is xs
+
+-- the same round by round
+abbrev pub pair_coins : Task → Plan → Plan → List ℕ → List Coin → List Coin
+pair_coins t p q = by_question (pair_coin t p q)
 
 -- the pairs asked for
 abbrev pub asked : List Shown → List ℕ

@@ -6,6 +6,7 @@ ghost use Rattle.std.specs.Prelude.{◌≡◌};
 ghost use Rattle.paths.specs.Promise.{Main, Passes, Reads, Caught};
 ghost use Rattle.paths.specs.Paired.{PairsCoin, PairsEach, PairsBack, PairsAlike};
 ghost use Rattle.paths.specs.Stop.{StopsAlike};
+ghost use Rattle.paths.specs.Simulated.{Simulates};
 ghost use Rattle.paths.specs.Clip.{ReadsClipped};
 ghost use Rattle.paths.specs.Count.{AsksCounted};
 ghost use Rattle.paths.specs.Misses.{OrderTwice, TurnsShow, SamePair};
@@ -40,13 +41,15 @@ pub fn parts_hold()
     ensures counted { AsksCounted }
 {}
 
-// The pairing of coins, by which askers see the same of any two plans that fit, also askers who stop or are refused.
+// The pairing of coins, by which askers see the same of any two plans that fit, also askers who stop or are refused; and by which what they see of a plan that
+// fits is what is told without a plan.
 pub fn pairing_holds()
     ensures coin { PairsCoin }
     ensures each { PairsEach }
     ensures back { PairsBack }
     ensures alike { PairsAlike }
     ensures stops { StopsAlike }
+    ensures simulated { Simulates }
 {}
 
 // What would go wrong with an order used twice, with orders that only turn, and with always the same question.

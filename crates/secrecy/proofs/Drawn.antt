@@ -3,14 +3,15 @@ use Rattle.std.proofs.Common.{◌≡◌, ℕ, zero, suc, ◌^◌, ◌≤◌, Boo
 use lib.Ieee.Fits.{and_i, and_l, and_r}
 use Rattle.std.proofs.lemmas.List.{length-map}
 use Rattle.paths.specs.Plan.{Task, Good, Plan, fits, all_below}
+use Rattle.paths.specs.Pairing.{by_question}
 use Rattle.paths.specs.Cheat.{count, asks}
 use Rattle.paths.specs.Count.{is_row}
 use Rattle.tasks.specs.Reading.{Got, got, refused}
-use Rattle.lots.specs.Lots.{Had, Lot, lot_in, each_as}
+use Rattle.lots.specs.Lots.{Had, Lot, lot_in, in_turn, each_as}
 use Rattle.round.specs.Line.{Other}
 use Rattle.planning.specs.Run.{showing}
 use Rattle.secrecy.specs.Hidden.{unaware, Hidden, hidden}
-use Rattle.secrecy.specs.Lots.{and_lots, lots_in, show_lots, pair_lot, pair_lots}
+use Rattle.secrecy.specs.Lots.{Lots, and_lots, lots_in, show_lots, pair_lot}
 use Rattle.secrecy.specs.Secret.{paired, Secret}
 use Rattle.secrecy.specs.Drawn.{paired_bytes, SecretDrawn, KeepsSecretDrawn}
 use Rattle.secrecy.proofs.ByLots.{by_lots-all}
@@ -19,16 +20,16 @@ use Rattle.secrecy.proofs.Aiming.{aimed_quotient}
 use Rattle.secrecy.proofs.Often.{as_often}
 use Rattle.secrecy.proofs.Orders.{Orders, aim_lots, orders_of, orders_of_lem, reorder, lots-long, lots-below, lots-first, lots-aimed, turns_aimed, lots_are, lots_own}
 
--- lots paired are lots with other orders
-reorder_paired : (t : Task) (p q : Plan) (is : List ℕ) (ls : List Lot) → reorder (orders_of (pair_lots t p q is ls)) ls ≡ pair_lots t p q is ls
-unfolding reorder pair_lots
-reorder_paired t p q is [] = refl
-reorder_paired t p q [] (l ∷ ls) = ap (λ ms. l ∷ ms) (own ls)
+-- lots whose orders alone are changed are lots with other orders
+pub reorder_by : (f : ℕ → Lot → Lot) → ((i : ℕ) (l : Lot) → (f i l).chances ≡ l.chances) → (is : List ℕ) (ls : List Lot) → reorder (orders_of (by_question f is ls)) ls ≡ by_question f is ls
+unfolding reorder by_question
+reorder_by f e is [] = refl
+reorder_by f e [] (l ∷ ls) = ap (λ ms. l ∷ ms) (own ls)
   where
     own : (ls : List Lot) → reorder (orders_of ls) ls ≡ ls
     own [] = refl
     own (l ∷ ls) = ap (λ ms. l ∷ ms) (own ls)
-reorder_paired t p q (i ∷ is) (l ∷ ls) = ap (λ ms. pair_lot t p q i l ∷ ms) (reorder_paired t p q is ls)
+reorder_by f e (i ∷ is) (l ∷ ls) = let c = sym (e i l) in let more = reorder_by f e is ls in λ j. record { order = (f i l).order; chances = c j } ∷ more j
 
 lots-few : (t : Task) (r : ℕ) (bs : List ℕ) → length (lots_in t r bs) ≤ r
 unfolding lots_in
@@ -39,60 +40,92 @@ lots-few t (suc r) bs = go (lot_in t bs) (lots-few t r)
     go (got h) more = let k = more h.left in omega arith
     go (refused f) more = omega arith
 
-module _ (H : List ℕ → List ℕ) (size : (x : List ℕ) → length (H x) ≡ 32) (t : Task) (good : Good t) (few : t.paths ≤ 2 ^ 32) (f : Other) (r : ℕ) where
-  module _ (p q : Plan) (fp : T (fits t p)) (fq : T (fits t q)) (bs : List ℕ) (b : T (all_below 256 bs)) where
+-- a change of lots to others that differ in their orders alone, undone by the other
+pub record Reorders (t : Task) (there back : List Lot → List Lot) : Type 0 where
+  pub fitting : (ls : List Lot) → Lots t ls → Lots t (there ls)
+  pub as_many : (ls : List Lot) → length (there ls) ≡ length ls
+  pub orders_alone : (ls : List Lot) → reorder (orders_of (there ls)) ls ≡ there ls
+  pub undo : (ls : List Lot) → Lots t ls → back (there ls) ≡ ls
+
+-- the drawn bytes aimed at the orders of the lots that theirs are changed to
+abbrev pub bytes_by : Task → ℕ → (List Lot → List Lot) → List ℕ → List ℕ
+bytes_by t r there bs = aim_lots t (orders_of (there (lots_in t r bs))) bs
+
+module _ (t : Task) (few : t.paths ≤ 2 ^ 32) (r : ℕ) where
+  module _ (there back : List Lot → List Lot) (u : Reorders t there back) (bs : List ℕ) (b : T (all_below 256 bs)) where
     abbrev lots : List Lot
     lots = lots_in t r bs
 
-    secret : Secret H t p q f r
-    secret = keeps_secret H size t good p q fp fq f r
+    pub orders-by : Orders t (orders_of (there lots))
+    orders-by = orders_of_lem t _ (u.fitting lots (lots_are t few r bs b))
 
-    orders : Orders t (orders_of (paired H f t p q r lots))
-    orders = orders_of_lem t _ (secret.fitting lots (lots_are t few r bs b))
+    pub lots-by : lots_in t r (bytes_by t r there bs) ≡ there lots
+    lots-by = lots-aimed t r _ orders-by bs ∙ u.orders_alone lots
 
-    lots-paired : lots_in t r (paired_bytes H f t p q r bs) ≡ paired H f t p q r lots
-    lots-paired = lots-aimed t r _ orders bs ∙ reorder_paired t p q _ lots
+    pub many-by : length (orders_of (there lots)) ≡ length lots
+    many-by = length-map _ _ ∙ u.as_many lots
 
-    as_many : length (orders_of (paired H f t p q r lots)) ≡ length lots
-    as_many = length-map _ _ ∙ secret.as_many lots
-
-    back : paired_bytes H f t q p r (paired_bytes H f t p q r bs) ≡ bs
-    back =
-        ap (λ ls. aim_lots t (orders_of (paired H f t q p r ls)) (paired_bytes H f t p q r bs)) lots-paired
-        ∙ (ap (λ ls. aim_lots t (orders_of ls) (paired_bytes H f t p q r bs)) (secret.back_there lots (lots_are t few r bs b))
-        ∙ (lots-first t _ aimed_quotient _ _ orders (as_many ∙ sym (length-map _ _)) bs ∙ lots_own t few r bs b))
+    pub bytes-back : bytes_by t r back (bytes_by t r there bs) ≡ bs
+    bytes-back =
+        ap (λ ls. aim_lots t (orders_of (back ls)) (bytes_by t r there bs)) lots-by
+        ∙ (ap (λ ls. aim_lots t (orders_of ls) (bytes_by t r there bs)) (u.undo lots (lots_are t few r bs b))
+        ∙ (lots-first t _ aimed_quotient _ _ orders-by (many-by ∙ sym (length-map _ _)) bs ∙ lots_own t few r bs b))
 
     -- the same bytes are left over
-    left : (g : Got (Had (List Lot))) → ((h : Had (List Lot)) → g ≡ got h → lots ≡ h.what) → each_as (reorder (orders_of (paired H f t p q r lots))) g ≡ each_as (paired H f t p q r) g
-    left (got h) e =
+    left_same : (g : Got (Had (List Lot))) → ((h : Had (List Lot)) → g ≡ got h → lots ≡ h.what) → each_as (reorder (orders_of (there lots))) g ≡ each_as there g
+    left_same (got h) e =
         let s = e h refl in
-        ap (λ (ls : List Lot). got record { what = ls; left = h.left }) (ap (reorder (orders_of (paired H f t p q r lots))) (sym s) ∙ (reorder_paired t p q _ lots ∙ ap (paired H f t p q r) s))
-    left (refused n) e = refl
+        ap (λ (ls : List Lot). got record { what = ls; left = h.left }) (ap (reorder (orders_of (there lots))) (sym s) ∙ (u.orders_alone lots ∙ ap there s))
+    left_same (refused n) e = refl
+
+    pub left_by : in_turn (lot_in t) r (bytes_by t r there bs) ≡ each_as there (in_turn (lot_in t) r bs)
+    left_by = turns_aimed t r _ (omega (arith, many-by, lots-few t r bs)) orders-by bs ∙ left_same _ (by_lots-all t r bs).enough
+
+    -- bytes of this length go with bytes of this length
+    row-by : (many : ℕ) → T (is_row 256 many bs) → T (is_row 256 many (bytes_by t r there bs)) × (bytes_by t r back (bytes_by t r there bs) ≡ bs)
+    row-by many h = (and_i _ _ (subst (λ n. T (eqb n many)) (sym (lots-long t _ orders-by bs)) (and_l _ _ h)) (lots-below t _ orders-by bs b), bytes-back)
+
+  -- what is tested of bytes passes as often where they are changed so
+  pub often_by : (there back : List Lot → List Lot) → Reorders t there back → Reorders t back there → (many : ℕ) (h g : List ℕ → Bool) →
+      ((bs : List ℕ) → T (all_below 256 bs) → h bs ≡ g (bytes_by t r there bs)) → count h (asks 256 many) ≡ count g (asks 256 many)
+  often_by there back u v many h g e =
+      as_often 256 many g (bytes_by t r there) (bytes_by t r back) (λ bs k. row-by there back u bs (bytes_of bs k) many k) (λ bs k. row-by back there v bs (bytes_of bs k) many k) h
+      (λ bs k. e bs (bytes_of bs k))
+    where
+      bytes_of : (bs : List ℕ) → T (is_row 256 many bs) → T (all_below 256 bs)
+      bytes_of bs k = and_r (eqb (length bs) many) _ k
+
+module _ (H : List ℕ → List ℕ) (size : (x : List ℕ) → length (H x) ≡ 32) (t : Task) (good : Good t) (few : t.paths ≤ 2 ^ 32) (f : Other) (r : ℕ) where
+  abbrev secret : (p q : Plan) → T (fits t p) → T (fits t q) → Secret H t p q f r
+  secret p q fp fq = keeps_secret H size t good p q fp fq f r
+
+  pub paired-reorders : (p q : Plan) → T (fits t p) → T (fits t q) → Reorders t (paired H f t p q r) (paired H f t q p r)
+  paired-reorders p q fp fq =
+      let s = secret p q fp fq in
+      record { fitting = s.fitting; as_many = s.as_many; orders_alone = λ ls. reorder_by (pair_lot t p q) (λ i l. refl) _ ls; undo = s.back_there }
 
   pub secret_drawn : (p q : Plan) → T (fits t p) → T (fits t q) → (bs : List ℕ) → T (all_below 256 bs) → SecretDrawn H t p q f r bs
   secret_drawn p q fp fq bs b =
-      let o = orders p q fp fq bs b in
-      let s = secret p q fp fq bs b in
-      let m = as_many p q fp fq bs b in
-      let l = lots-paired p q fp fq bs b in
+      let u = paired-reorders p q fp fq in
+      let v = paired-reorders q p fq fp in
+      let o = orders-by t few r _ _ u bs b in
+      let s = secret p q fp fq in
+      let m = many-by t few r _ _ u bs b in
+      let l = lots-by t few r _ _ u bs b in
       let x = (by_lots-all t r bs).run H (unaware f) p in
       let y = (by_lots-all t r (paired_bytes H f t p q r bs)).run H (unaware f) q ∙ ap (show_lots H (unaware f) t q r) l in
       record {
         as_many = lots-long t _ o bs;
         bytes = lots-below t _ o bs b;
         lots = l;
-        left = turns_aimed t r _ (omega (arith, m, lots-few t r bs)) o bs ∙ left p q fp fq bs b _ (by_lots-all t r bs).enough;
+        left = left_by t few r _ _ u bs b;
         places = λ os k. lots-first t _ (λ s x v e l. refl) _ os o (m ∙ sym k) bs;
         quotients = λ os k. lots-first t _ aimed_quotient _ os o (m ∙ sym k) bs;
-        back_there = back p q fp fq bs b;
-        there_back = back q p fq fp bs b;
+        back_there = bytes-back t few r _ _ u bs b;
+        there_back = bytes-back t few r _ _ v bs b;
         same = ap hidden x ∙ (s.same (lots_in t r bs) ∙ ap hidden (sym y));
         twins = rw (x, y, l) (s.twins (lots_in t r bs));
       }
-
--- bytes of this length go with bytes of this length
-row_paired : (many : ℕ) (bs cs : List ℕ) → T (is_row 256 many bs) → length cs ≡ length bs → T (all_below 256 cs) → T (is_row 256 many cs)
-row_paired many bs cs h l b = and_i _ _ (subst (λ n. T (eqb n many)) (sym l) (and_l _ _ h)) b
 
 pub keeps_secret_drawn : (H : List ℕ → List ℕ) → ((x : List ℕ) → length (H x) ≡ 32) → KeepsSecretDrawn H
 keeps_secret_drawn H size t good few p q fp fq f r = record { drawn = there; as_often = often }
@@ -100,15 +133,7 @@ keeps_secret_drawn H size t good few p q fp fq f r = record { drawn = there; as_
     there : (bs : List ℕ) → T (all_below 256 bs) → SecretDrawn H t p q f r bs
     there = secret_drawn H size t good few f r p q fp fq
 
-    back : (bs : List ℕ) → T (all_below 256 bs) → SecretDrawn H t q p f r bs
-    back = secret_drawn H size t good few f r q p fq fp
-
-    bytes_of : (many : ℕ) (bs : List ℕ) → T (is_row 256 many bs) → T (all_below 256 bs)
-    bytes_of many bs h = and_r (eqb (length bs) many) _ h
-
     often : (test : Hidden → Bool) (many : ℕ) → count (λ bs. test (hidden (showing H (unaware f) t p r bs))) (asks 256 many) ≡ count (λ bs. test (hidden (showing H (unaware f) t q r bs))) (asks 256 many)
     often test many =
-        as_often 256 many (λ bs. test (hidden (showing H (unaware f) t q r bs))) (paired_bytes H f t p q r) (paired_bytes H f t q p r)
-        (λ bs h. let b = bytes_of many bs h in (row_paired many bs _ h (there bs b).as_many (there bs b).bytes, (there bs b).back_there))
-        (λ bs h. let b = bytes_of many bs h in (row_paired many bs _ h (back bs b).as_many (back bs b).bytes, (back bs b).back_there))
-        _ (λ bs h. ap test (there bs (bytes_of many bs h)).same)
+        often_by t few r _ _ (paired-reorders H size t good few f r p q fp fq) (paired-reorders H size t good few f r q p fq fp) many _ (λ bs. test (hidden (showing H (unaware f) t q r bs)))
+        (λ bs b. ap test (there bs b).same)

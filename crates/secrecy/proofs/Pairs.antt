@@ -4,18 +4,19 @@ use lib.ListN.{length-replicate}
 use Rattle.paths.specs.Plan.{Task, Good, Plan, fits, all_below}
 use Rattle.paths.specs.Show.{Coin}
 use Rattle.paths.specs.Promise.{IsCoin}
-use Rattle.paths.specs.Pairing.{pair_coins}
+use Rattle.paths.specs.Pairing.{by_question}
+use Rattle.paths.specs.Paired.{PairedCoin}
 use Rattle.paths.proofs.Rows.{below_parts}
 use Rattle.paths.proofs.Paired.{pairs_coin}
 use Rattle.drawing.specs.Uniform.{IsOrder}
 use Rattle.lots.specs.Lots.{Lot, coin_of_lot}
-use Rattle.secrecy.specs.Lots.{IsLot, Lots, pair_lot, pair_lots, PairsAsCoins}
+use Rattle.secrecy.specs.Lots.{IsLot, Lots, pair_lot, PairsAsCoins}
 
-pub pair-long : (t : Task) (p q : Plan) (is : List ℕ) (ls : List Lot) → length (pair_lots t p q is ls) ≡ length ls
-unfolding pair_lots
-pair-long t p q is [] = refl
-pair-long t p q [] (l ∷ ls) = refl
-pair-long t p q (i ∷ is) (l ∷ ls) = ap suc (pair-long t p q is ls)
+pub by-long : (f : ℕ → Lot → Lot) (is : List ℕ) (ls : List Lot) → length (by_question f is ls) ≡ length ls
+unfolding by_question
+by-long f is [] = refl
+by-long f [] (l ∷ ls) = refl
+by-long f (i ∷ is) (l ∷ ls) = ap suc (by-long f is ls)
 
 -- a coin with this order
 abbrev coin_with : Task → List ℕ → Coin
@@ -29,31 +30,43 @@ zeros-below (suc n) = zeros-below n
 is_coin : (t : Task) (o : List ℕ) → IsOrder t.paths o → IsCoin t (coin_with t o)
 is_coin t o h = (h.0, h.1, h.2, length-replicate t.trains 0, zeros-below t.trains)
 
-module _ (t : Task) (good : Good t) (p q : Plan) (fp : T (fits t p)) (fq : T (fits t q)) where
-  lot-fits : (i : ℕ) → i < length t.pairs → (l : Lot) → IsLot t l → IsLot t (pair_lot t p q i l)
-  lot-fits i k l h =
-      let c = (pairs_coin t good p q fp fq i k).is_coin (coin_with t l.order) (is_coin t l.order h.order) in
-      record { order = (c.0, c.1, c.2); chances = h.chances; bytes = h.bytes }
+-- a change of lots that gives lots again, and is undone by the other
+pub record Undone (t : Task) (there back : ℕ → Lot → Lot) : Type 0 where
+  pub fits : (i : ℕ) → i < length t.pairs → (l : Lot) → IsLot t l → IsLot t (there i l)
+  pub undo : (i : ℕ) → i < length t.pairs → (l : Lot) → IsLot t l → back i (there i l) ≡ l
 
-  lot-back : (i : ℕ) → i < length t.pairs → (l : Lot) → IsLot t l → pair_lot t q p i (pair_lot t p q i l) ≡ l
-  lot-back i k l h =
-      let e = (pairs_coin t good p q fp fq i k).back (coin_with t l.order) (is_coin t l.order h.order) in
-      λ j. record { order = (e j).order; chances = l.chances }
+module _ (t : Task) (there back : ℕ → Lot → Lot) (u : Undone t there back) where
+  pub by_fits : (is : List ℕ) → T (all_below (length t.pairs) is) → (ls : List Lot) → Lots t ls → Lots t (by_question there is ls)
+  unfolding by_question Lots
+  by_fits is b [] h = tt
+  by_fits [] b (l ∷ ls) h = h
+  by_fits (i ∷ is) b (l ∷ ls) h = let d = below_parts _ i is b in (u.fits i d.0 l h.0, by_fits is d.1 ls h.1)
 
-  pub pair_fits : (is : List ℕ) → T (all_below (length t.pairs) is) → (ls : List Lot) → Lots t ls → Lots t (pair_lots t p q is ls)
-  unfolding pair_lots Lots
-  pair_fits is b [] h = tt
-  pair_fits [] b (l ∷ ls) h = h
-  pair_fits (i ∷ is) b (l ∷ ls) h = let d = below_parts _ i is b in (lot-fits i d.0 l h.0, pair_fits is d.1 ls h.1)
+  pub by-back : (is : List ℕ) → T (all_below (length t.pairs) is) → (ls : List Lot) → Lots t ls → by_question back is (by_question there is ls) ≡ ls
+  unfolding by_question Lots
+  by-back is b [] h = refl
+  by-back [] b (l ∷ ls) h = refl
+  by-back (i ∷ is) b (l ∷ ls) h = let d = below_parts _ i is b in rw (u.undo i d.0 l h.0, by-back is d.1 ls h.1)
 
-  pub pair-back : (is : List ℕ) → T (all_below (length t.pairs) is) → (ls : List Lot) → Lots t ls → pair_lots t q p is (pair_lots t p q is ls) ≡ ls
-  unfolding pair_lots Lots
-  pair-back is b [] h = refl
-  pair-back [] b (l ∷ ls) h = refl
-  pair-back (i ∷ is) b (l ∷ ls) h = let d = below_parts _ i is b in rw (lot-back i d.0 l h.0, pair-back is d.1 ls h.1)
+-- lots are changed so where they are paired as coins are, for each question by two plans
+pub paired-undone : (t : Task) (p q : ℕ → Plan) → ((i : ℕ) → i < length t.pairs → PairedCoin t (p i) (q i) i) → Undone t (λ i. pair_lot t (p i) (q i) i) (λ i. pair_lot t (q i) (p i) i)
+paired-undone t p q c = record { fits = fits; undo = undo }
+  where
+    fits : (i : ℕ) → i < length t.pairs → (l : Lot) → IsLot t l → IsLot t (pair_lot t (p i) (q i) i l)
+    fits i k l h =
+        let d = (c i k).is_coin (coin_with t l.order) (is_coin t l.order h.order) in
+        record { order = (d.0, d.1, d.2); chances = h.chances; bytes = h.bytes }
+
+    undo : (i : ℕ) → i < length t.pairs → (l : Lot) → IsLot t l → pair_lot t (q i) (p i) i (pair_lot t (p i) (q i) i l) ≡ l
+    undo i k l h =
+        let e = (c i k).back (coin_with t l.order) (is_coin t l.order h.order) in
+        λ j. record { order = (e j).order; chances = l.chances }
+
+pub lots-undone : (t : Task) → Good t → (p q : Plan) → T (fits t p) → T (fits t q) → Undone t (pair_lot t p q) (pair_lot t q p)
+lots-undone t good p q fp fq = paired-undone t (λ i. p) (λ i. q) (pairs_coin t good p q fp fq)
 
 pub pairs_as_coins : PairsAsCoins
-unfolding pair_lots pair_coins
+unfolding by_question
 pairs_as_coins t p q is [] = refl
 pairs_as_coins t p q [] (l ∷ ls) = refl
 pairs_as_coins t p q (i ∷ is) (l ∷ ls) = ap (λ cs. coin_of_lot t (pair_lot t p q i l) ∷ cs) (pairs_as_coins t p q is ls)

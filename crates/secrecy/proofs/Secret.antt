@@ -5,10 +5,10 @@ use Rattle.paths.proofs.Paired.{fits-parts}
 use Rattle.lots.specs.Lots.{Lot}
 use Rattle.round.specs.Line.{Other}
 use Rattle.secrecy.specs.Hidden.{unaware}
-use Rattle.secrecy.specs.Lots.{Lots, show_lots, asked}
+use Rattle.secrecy.specs.Lots.{Lots, show_lots, asked, pair_lot}
 use Rattle.secrecy.specs.Secret.{paired, Secret, KeepsSecret}
 use Rattle.secrecy.specs.Twins.{begun}
-use Rattle.secrecy.proofs.Pairs.{pair-long, pair_fits, pair-back}
+use Rattle.secrecy.proofs.Pairs.{by-long, by_fits, by-back, lots-undone}
 use Rattle.secrecy.proofs.Twins.{twins-hidden, Same, two-turn, goes}
 
 module _ (H : List ℕ → List ℕ) (size : (x : List ℕ) → length (H x) ≡ 32) (t : Task) (good : Good t) (f : Other) (r : ℕ) where
@@ -17,14 +17,14 @@ module _ (H : List ℕ → List ℕ) (size : (x : List ℕ) → length (H x) ≡
   whole p q fp fq ls = goes H size t good p q fp fq r (unaware f) (λ xs ys. ap f) r 0 [] [] refl _ _ (two-turn H size t good p q fp fq r (unaware f) (λ xs ys. ap f) 0 _ _) ls _ _ begun
 
   back : (p q : Plan) (fp : T (fits t p)) (fq : T (fits t q)) (ls : List Lot) → Lots t ls → paired H f t q p r (paired H f t p q r ls) ≡ ls
-  back p q fp fq ls h = let w = whole p q fp fq ls in rw w.asked (pair-back t good p q fp fq _ w.below ls h)
+  back p q fp fq ls h = let w = whole p q fp fq ls in rw w.asked (by-back t _ _ (lots-undone t good p q fp fq) _ w.below ls h)
 
   secret : (p q : Plan) → T (fits t p) → T (fits t q) → Secret H t p q f r
   secret p q fp fq =
       record {
         questions = λ ls. (whole p q fp fq ls).below;
-        fitting = λ ls h. pair_fits t good p q fp fq _ (whole p q fp fq ls).below ls h;
-        as_many = λ ls. pair-long t p q _ ls;
+        fitting = λ ls h. by_fits t _ _ (lots-undone t good p q fp fq) _ (whole p q fp fq ls).below ls h;
+        as_many = λ ls. by-long (pair_lot t p q) _ ls;
         back_there = back p q fp fq;
         there_back = back q p fq fp;
         same = λ ls. let w = whole p q fp fq ls in let e = twins-hidden H size t p q ((fits-parts t p fp).0 ∙ sym (fits-parts t q fq).0) _ _ _ _ w.twins in let o = w.outcome in λ j. record { line = e j; outcome = o j };

@@ -6,6 +6,7 @@ use Rattle.std.proofs.Math.Seq.{drop-append-add}
 use Rattle.std.proofs.lemmas.List.{get_or-map, length-map, length-append, take-append-le}
 use Rattle.std.proofs.lemmas.Bool.{ltb-true}
 use Rattle.paths.specs.Plan.{Task, Good, Plan, at, fits, all_below}
+use Rattle.paths.specs.Pairing.{by_question}
 use Rattle.paths.proofs.Paired.{fits-parts, pairs_coin}
 use Rattle.tasks.specs.Reading.{Got, got, refused, and_then}
 use Rattle.sha256.specs.Sha256.{bytes}
@@ -37,7 +38,7 @@ on-asked t n i x e =
     let same : p.0 ≡ i = cc q.2 in
     omega (arith, ltb-true _ _ (cond-got (ltb p.0 (length t.pairs)) 7 _ q.0 q.1).0)
 
-asked-there : (t : Task) (n i : ℕ) (w : List ℕ) → ask_in t n w ≡ got i → i < length t.pairs
+pub asked-there : (t : Task) (n i : ℕ) (w : List ℕ) → ask_in t n w ≡ got i → i < length t.pairs
 asked-there t n i w e = go (read_word t w) e
   where
     go : (g : Got Said) → and_then g (on_ask t n) ≡ got i → i < length t.pairs
@@ -103,21 +104,21 @@ module _ (H : List ℕ → List ℕ) (other : Other) (left : ℕ) (s : Ready) (l
   abbrev next : ℕ → List ℕ → Leads Ready
   next i v = and_on (hear (opened_by (close_lot H s l) w i) v) (settle H)
 
-  run-opens : (i : ℕ) (v : List ℕ) → other first ≡ w → ask_in s.task s.round w ≡ got i → other (second i) ≡ v →
+  pub run-opens : (i : ℕ) (v : List ℕ) → other first ≡ w → ask_in s.task s.round w ≡ got i → other (second i) ≡ v →
       run_lots H other (suc left) (on s) (l ∷ ls) line ≡ run_lots H other left (next i v) ls (heard v ∷ second i)
   unfolding run_lots
   run-opens i v e k g = rw (e, k, g) refl
 
-  asked-opens : (i : ℕ) (v : List ℕ) → other first ≡ w → ask_in s.task s.round w ≡ got i → other (second i) ≡ v →
+  pub asked-opens : (i : ℕ) (v : List ℕ) → other first ≡ w → ask_in s.task s.round w ≡ got i → other (second i) ≡ v →
       asked_lots H other (suc left) (on s) (l ∷ ls) line ≡ i ∷ asked_lots H other left (next i v) ls (heard v ∷ second i)
   unfolding asked_lots
   asked-opens i v e k g = rw (e, k, g) refl
 
-  run_ends : (f : ℕ) → other first ≡ w → ask_in s.task s.round w ≡ refused f → run_lots H other (suc left) (on s) (l ∷ ls) line ≡ record { line = heard w ∷ first; over = stops s f }
+  pub run_ends : (f : ℕ) → other first ≡ w → ask_in s.task s.round w ≡ refused f → run_lots H other (suc left) (on s) (l ∷ ls) line ≡ record { line = heard w ∷ first; over = stops s f }
   unfolding run_lots
   run_ends f e k = rw (e, k) (lots-out H other left _ ls _)
 
-  asked-ends : (f : ℕ) → other first ≡ w → ask_in s.task s.round w ≡ refused f → asked_lots H other (suc left) (on s) (l ∷ ls) line ≡ []
+  pub asked-ends : (f : ℕ) → other first ≡ w → ask_in s.task s.round w ≡ refused f → asked_lots H other (suc left) (on s) (l ∷ ls) line ≡ []
   unfolding asked_lots
   asked-ends f e k = rw (e, k) refl
 
@@ -180,7 +181,7 @@ module _ (H : List ℕ → List ℕ) (size : (x : List ℕ) → length (H x) ≡
 
   by_ask : (left : ℕ) → Goes left → (n : ℕ) (us vs : List Lot) → length us ≡ n → (d e : List ℕ) (l : Lot) (ls : List Lot) (xs ys : List Event) → Twins H t p q us vs xs ys →
       (g : Got ℕ) → ask_in t n (other (sent (close_lot H (state p n d) l).boxes ∷ xs)) ≡ g → Shows (suc left) us vs (on (state p n d)) (on (state q n e)) (l ∷ ls) xs ys
-  unfolding pair_lots all_below
+  unfolding by_question all_below
   by_ask left more n us vs u d e l ls xs ys s (refused f) k =
       let z = closed n l l refl us vs xs ys u s in
       let g = says _ _ _ _ z in
@@ -212,7 +213,7 @@ module _ (H : List ℕ → List ℕ) (size : (x : List ℕ) → length (H x) ≡
       record { rounds = suc y.rounds; twins = y.twins; outcome = y.outcome; asked = ap (λ is. i ∷ is) y.asked; below = and_i _ _ (lt→ltb i _ j) y.below }
 
   pub goes : (left : ℕ) → Goes left
-  unfolding run_lots asked_lots all_below pair_lots
+  unfolding run_lots asked_lots all_below by_question
   goes zero _ us vs u _ _ (both n d e) ls xs ys s = record { rounds = 0; twins = s; outcome = refl; asked = refl; below = tt }
   goes zero _ us vs u _ _ (over n x y h) ls xs ys s = record { rounds = 0; twins = s; outcome = h; asked = refl; below = tt }
   goes (suc left) _ us vs u _ _ (over n x y h) ls xs ys s = record { rounds = 0; twins = s; outcome = h; asked = refl; below = tt }

@@ -2,7 +2,7 @@
 -- Assumes nothing.
 use Rattle.std.specs.Prelude.{◌≡◌, ℕ, zero, suc, ◌*◌, ◌<◌, T, List, [], ◌∷◌, map, length}
 use Rattle.paths.specs.Plan.{Task, Plan, all_below}
-use Rattle.paths.specs.Pairing.{pair_coin, pair_coins}
+use Rattle.paths.specs.Pairing.{pair_coin, by_question, pair_coins}
 use Rattle.drawing.specs.Uniform.{IsOrder}
 use Rattle.tasks.specs.Reading.{Got, got, refused}
 use Rattle.lots.specs.Lots.{Had, Lot, lot_in, coin_of_lot, in_turn}
@@ -89,10 +89,8 @@ abbrev pub pair_lot : Task → Plan → Plan → ℕ → Lot → Lot
 pair_lot t p q i l = record { order = (pair_coin t p q i (coin_of_lot t l)).order; chances = l.chances }
 
 -- the same round by round, by the question of the round alone; lots of rounds in which no pair was opened stay
-unfoldable pub pair_lots : Task → Plan → Plan → List ℕ → List Lot → List Lot
-pair_lots t p q is [] = []
-pair_lots t p q [] (l ∷ ls) = l ∷ ls
-pair_lots t p q (i ∷ is) (l ∷ ls) = pair_lot t p q i l ∷ pair_lots t p q is ls
+abbrev pub pair_lots : Task → Plan → Plan → List ℕ → List Lot → List Lot
+pair_lots t p q = by_question (pair_lot t p q)
 
 -- So lots, as coins, are paired as coins are.
 abbrev pub PairsAsCoins : Type 0
