@@ -6,5 +6,6 @@ pub mod Aiming
 pub mod Orders
 pub mod Often
 pub mod Drawn
+pub mod Simulated
 pub mod Misses
 pub mod All

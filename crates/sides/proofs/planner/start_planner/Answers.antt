@@ -15,6 +15,7 @@ returns c =
       answer = c.start.ensures.answer;
       conduct = c.start.ensures.conduct;
       secrecy = c.start.ensures.secrecy;
+      simulated = c.start.ensures.simulated;
       hidden = secret sha256 length-sha256;
       complete = completes;
       joined = joins;
