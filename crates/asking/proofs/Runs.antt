@@ -77,11 +77,12 @@ module _ (H : List ℕ → List ℕ) (t : Task) (good : sound t ≡ true) (r : �
         content_round_lem : (x y : Opening) → read_word t w ≡ got (opened n x y) → Contents H t n h.what ds x y → (rest : List Event) (o : Over) →
             From H t r (n + 1) h.left (closed true ∷ ws) rest o → From H t r n drawn ws (events true rest) o
         content_round_lem x y read c rest o f =
-            let word = (as_said t few w b (opened n x y) read).1 in
+            let said = as_said t few w b (opened n x y) read in
+            let word = said.1 in
             let keeps : kept H t n w ≡ said_bytes (opened n x y) = ap (λ g. cond (is_opened_of n g) w []) read ∙ (ap (λ same. cond same w []) (eq-eqb n n refl) ∙ word) in
             let texts : closed true ≡ text H t n ds h.what (said_bytes (opened n x y)) true = rw (e, keeps) refl in
             let f' = subst (λ z. From H t r (n + 1) h.left (z ∷ ws) rest o) texts f in
-            rw (e, word) (end1 n drawn ws h ds x y rest o k q (pair_there t good drawn h q) l c f')
+            rw (e, word) (end1 n drawn ws h ds x y rest o k q (pair_there t good drawn h q) l c said.0 f')
 
         answered : (g : Got Looked) → tests ds ≡ g →
             Goes n drawn ws line (run H other left h.left (settled (ready n ws) (next_digest H (after H (task_bytes t) ws) (closed (is_got g))) g) (reverse_aux (events (is_got g) []) line))
@@ -150,7 +151,7 @@ module _ (H : List ℕ → List ℕ) (t : Task) (good : sound t ≡ true) (r : �
   counted (drawn_out n drawn ws k q) = early n [] _ 11 n k refl refl
   counted (no_boxes n drawn ws h w f k q b) = early n (heard w ∷ []) _ f n k refl refl
   counted (end0 n drawn ws h ds w f k q p l b) = early n _ _ f n k refl refl
-  counted (end1 n drawn ws h ds x y rest o k q p l c more) =
+  counted (end1 n drawn ws h ds x y rest o k q p l c said more) =
       let m = counted more in
       record { content_then = λ q. omega (arith, m.content_then q); then_content = λ q. m.then_content (omega (arith, q)) }
 

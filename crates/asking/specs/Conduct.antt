@@ -11,7 +11,7 @@ use Rattle.book.specs.Chain.{after}
 use Rattle.lots.specs.Lots.{Had, question_in}
 use Rattle.words.specs.Said.{Said, task, boxes, ask, opened, end}
 use Rattle.words.specs.Reading.{read_word}
-use Rattle.words.specs.Writing.{said_bytes, is_got}
+use Rattle.words.specs.Writing.{said_bytes, is_got, is_said}
 use Rattle.round.specs.Over.{Over, Outcome, content, fault, task_fault}
 use Rattle.round.specs.Contents.{Contents}
 use Rattle.round.specs.Round.{test_opened}
@@ -65,7 +65,7 @@ module _ (H : List ℕ → List ℕ) (t : Task) where
         From r n drawn ws (heard (said_bytes (boxes n ds)) ∷ sent (said_bytes (ask n h.what)) ∷ heard w ∷ sent (said_bytes (end n false)) ∷ [])
         (ends_by (fault f n) (text n ds h.what (kept n w) false ∷ ws))
     end1 : (n : ℕ) (drawn : List ℕ) (ws : List (List ℕ)) (h : Had ℕ) (ds : List ℕ) (x y : Opening) (rest : List Event) (o : Over) → n < r →
-        question_in t drawn ≡ got h → h.what < length t.pairs → length ds ≡ 32 * t.trains → Contents H t n h.what ds x y →
+        question_in t drawn ≡ got h → h.what < length t.pairs → length ds ≡ 32 * t.trains → Contents H t n h.what ds x y → is_said t (opened n x y) ≡ true →
         From r (n + 1) h.left (text n ds h.what (said_bytes (opened n x y)) true ∷ ws) rest o →
         From r n drawn ws (heard (said_bytes (boxes n ds)) ∷ sent (said_bytes (ask n h.what)) ∷ heard (said_bytes (opened n x y)) ∷ sent (said_bytes (end n true)) ∷ rest) o
 

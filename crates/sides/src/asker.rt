@@ -13,6 +13,7 @@ ghost use Rattle.joined.specs.Cases.{AllHold, cases, faults};
 ghost use Rattle.joined.specs.Refused.{RefusedEnds};
 ghost use Rattle.joined.specs.Side.{JoinedIs};
 ghost use Rattle.joined.specs.Sides.{NothingAfter, SidesRun};
+ghost use Rattle.faultless.specs.Faultless.{Faultless};
 
 use asking::Awaiting;
 use std::alloc::{AllocError, Global};
@@ -20,7 +21,7 @@ use tasks::{Rounds, Task};
 
 // An asker who wants to see so many rounds of the task. Of its runs it is promised: they keep to the asker's conduct; where no
 // plan fits, whatever is said to it, it is content in few of the ways to ask, or two texts of one digest are at hand, and so of the bytes that it draws; with an honest
-// planner both are content, unless drawn bytes are too few; and after a refusal nothing more is sent.
+// planner both are content, unless drawn bytes are too few; after a refusal nothing more is sent; and the judge passes what it records.
 pub fn start_asker(heap: Global, task: Task, rounds: Rounds) -> Result<Awaiting, AllocError>
     ensures state { IfOk result (λ s. awaiting_of s ≡ record { task = task_of task; rounds = rounds.count }) }
     ensures conduct { (hash : List ℕ → List ℕ) → Conduct hash (task_of task) rounds.count }
@@ -39,6 +40,7 @@ pub fn start_asker(heap: Global, task: Task, rounds: Rounds) -> Result<Awaiting,
     ensures refused { RefusedEnds sha256 }
     ensures cases { AllHold cases }
     ensures faults { AllHold faults }
+    ensures faultless { Faultless sha256 }
 {
     Awaiting::start(heap, task, rounds)
 }

@@ -7,6 +7,7 @@ use Rattle.joined.proofs.Cases.{all-cases, all_faults}
 use Rattle.joined.proofs.Joins.{joins}
 use Rattle.joined.proofs.Refused.{refused_ends}
 use Rattle.joined.proofs.Sides.{joined_is, sides_run, nothing_after}
+use Rattle.faultless.proofs.Passes.{faultless}
 use Rattle.sides.proofs.asker.start_asker.Goals as goal
 
 pub returns : goal.returns
@@ -29,4 +30,5 @@ returns c =
       refused = refused_ends sha256;
       cases = all-cases;
       faults = all_faults;
+      faultless = faultless sha256;
     }

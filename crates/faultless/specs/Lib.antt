@@ -1,0 +1,3 @@
+pub mod Transcript
+pub mod Faultless
+pub mod Examples
