@@ -45,7 +45,7 @@ fn put_next<W: Words>(w: &mut [W; 64], n: usize)
     w[n + 16] = x;
 }
 
-// Four words more at a turn, for the same reason as eight rounds below: each word is still at hand for those after it.
+// Four words more at a turn, so that a word may be at hand still for those after it. A loop of one word at a turn was not measured.
 fn put_four<W: Words>(w: &mut [W; 64], n: usize)
     requires { n + 4 ≤ 48 }
     ensures { (j : ℕ) (b : List ℕ) → j < W.lanes → take (n + 16) (column W.lane w.old j) ≡ scheduled b n → take (n + 4 + 16) (column W.lane w.new j) ≡ scheduled b (n + 4) }
@@ -88,7 +88,8 @@ fn step<W: Words>(s: State<W>, k: u32, w: W) -> State<W>
     }
 }
 
-// Eight rounds from round t on, so that the compiler renames the words and moves none: a loop of one round at a turn was tried, and was a third slower.
+// Eight rounds from round t on, so that the compiler can rename the words and move none. Before this code was written, a loop of one round at a turn was tried,
+// and was a third slower; as the code stands it was not measured.
 #[tactic(auto, using(crate::proofs::Lanes::lane_more))]
 fn eight_steps<W: Words>(s: State<W>, w: &[W; 64], t: usize) -> State<W>
     requires { t + 8 ≤ 64 }
