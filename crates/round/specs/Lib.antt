@@ -1,4 +1,5 @@
 pub mod Round
+pub mod Laws
 pub mod Over
 pub mod Line
 pub mod Contents

@@ -4,6 +4,7 @@ ghost use Rattle.std.specs.Bool.{then_some};
 ghost use Rattle.tasks.specs.Model.{task_of, plan_of};
 ghost use Rattle.boxes.specs.Model.{opening_of};
 ghost use Rattle.lots.specs.Views.{lot_of};
+ghost use Rattle.round.specs.Laws.{OpensByLot};
 ghost use Rattle.round.specs.Round.{part_of, opening_for, opened_bytes, Complete};
 
 use super::closing::number_of;
@@ -32,10 +33,12 @@ fn opening_for(plan: &Plan, lot: &Lot, train: u16) -> Opening
     }
 }
 
-// The Opened of the round for the pair with this number. None where there is no such pair, or the chances are too few.
-#[tactic(auto, using(crate::proofs::Complete::complete))]
+// The Opened of the round for the pair with this number. None where there is no such pair, or the chances are too few. It opens boxes of the coin that the lot is, and
+// is accepted.
+#[tactic(auto, using(crate::proofs::Complete::complete, crate::proofs::Opens::opens_by_lot))]
 pub fn opened_word(task: &Task, plan: &Plan, round: u32, lot: &Lot, pair: u16) -> Option<[u8; 75]>
     ensures word { result ≡ opened_bytes (task_of task.now) round (plan_of plan.now) (lot_of lot.now) pair }
+    ensures coin { OpensByLot }
     ensures complete { (hash : List ℕ → List ℕ) → ((text : List ℕ) → length (hash text) ≡ 32) → Complete hash }
 {
     let asked = pair_at(task, pair).ok()?;

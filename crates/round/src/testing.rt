@@ -1,5 +1,5 @@
 // The test of a word that is to open the two boxes asked for.
-ghost use Rattle.std.specs.Prelude.{◌≡◌};
+ghost use Rattle.std.specs.Prelude.{◌≡◌, ℕ, List};
 ghost use Rattle.sha256.specs.Sha256.{sha256};
 ghost use Rattle.tasks.specs.Model.{task_of};
 ghost use Rattle.tasks.specs.Pair.{pair_of};
@@ -7,6 +7,7 @@ ghost use Rattle.tasks.specs.Reading.{looks};
 ghost use Rattle.paths.specs.Show.{pair_at};
 ghost use Rattle.boxes.specs.Model.{opening_of};
 ghost use Rattle.words.specs.Model.{said};
+ghost use Rattle.round.specs.Laws.{TellsLowest};
 ghost use Rattle.round.specs.Round.{opens_in, content_with, test_opened};
 
 use super::opening::part_of;
@@ -42,7 +43,8 @@ fn asked_pair(task: &Task, pair: u16) -> Pair
 }
 
 // Whether the word opens the two boxes of the pair asked for in this round, of a task whose Boxes had these digests, so that the asker is content; or the lowest
-// fault.
+// fault that applies.
+#[tactic(auto, using(crate::proofs::Faults::tells_lowest))]
 pub fn test_opened(
     task: &Task,
     round: u32,
@@ -50,7 +52,8 @@ pub fn test_opened(
     digests: &[u8],
     word: Word,
 ) -> Result<(), Fault>
-    ensures { looks result ≡ test_opened sha256 (task_of task.now) round pair digests.now (said word.entry) }
+    ensures answer { looks result ≡ test_opened sha256 (task_of task.now) round pair digests.now (said word.entry) }
+    ensures lowest { (hash : List ℕ → List ℕ) → TellsLowest hash }
 {
     let Word::Opened(said, first, second) = word else {
         return Err(Fault::NotAwaited);
