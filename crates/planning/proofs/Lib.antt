@@ -1,3 +1,4 @@
 pub mod Filled
 pub mod Awaited
+pub mod Opens
 pub mod Conducts

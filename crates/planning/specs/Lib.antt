@@ -1,4 +1,5 @@
 pub mod Planning
 pub mod Model
 pub mod Run
+pub mod Opens
 pub mod Conduct

@@ -8,6 +8,7 @@ ghost use Rattle.words.specs.Writing.{said_bytes};
 ghost use Rattle.round.specs.Over.{over_of, leads};
 ghost use Rattle.round.specs.Round.{boxes_for, opened_for};
 ghost use Rattle.planning.specs.Model.{ready_of, closed_of, opened_of, heard_of};
+ghost use Rattle.planning.specs.Opens.{AnswersAreDrawn};
 ghost use Rattle.planning.specs.Planning.{stops, turn, left_over, close, answer, hear, settle};
 
 use super::closed::Closed;
@@ -80,9 +81,11 @@ impl Closed {
         opened_word(&ready.task, &ready.plan, ready.round, &lot, pair).unwrap()
     }
 
-    // The boxes of the pair asked for opened, or the end by the fault of the word.
+    // The boxes of the pair asked for opened, or the end by the fault of the word. They are of the coin that was drawn for the round.
+    #[tactic(auto, using(crate::proofs::Opens::answers_drawn))]
     pub fn answer(self, word: &[u8]) -> Result<Opened, Over>
-        ensures { leads opened_of result ≡ answer (closed_of self) word.now }
+        ensures state { leads opened_of result ≡ answer (closed_of self) word.now }
+        ensures coins { AnswersAreDrawn }
     {
         let ready = &self.ready;
         let pair = ready.read_ask(word).map_err(|fault| ready.stops(fault))?;
