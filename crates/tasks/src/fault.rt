@@ -1,7 +1,7 @@
 // The faults: why a file, a word or a showing is refused. Each has a number, except the want of memory.
-ghost use Rattle.std.specs.Prelude.{◌≡◌};
+ghost use Rattle.std.specs.Prelude.{◌≡◌, Some};
 ghost use Rattle.tasks.specs.declared.fault.Fault.TheVariants.{Memory};
-ghost use Rattle.tasks.specs.Fault.{number};
+ghost use Rattle.tasks.specs.Fault.{number, cause, fault_text};
 
 use std::alloc::{AllocError, AllocFailed};
 use std::fmt;
@@ -55,7 +55,9 @@ impl Fault {
         }
     }
 
-    fn cause(&self) -> &'static str {
+    fn cause(&self) -> &'static str
+        ensures { result.now ≡ cause self.now }
+    {
         match self {
             Fault::Shape => "unknown kind or bad length",
             Fault::Range => "a number out of its range, or a train or path that isn't there",
@@ -78,6 +80,8 @@ impl Fault {
 // What a person is told, by hand, since `thiserror` would say the numbers a second time. The trains of an unfit pair are left out, as only the planner may know
 // them.
 impl fmt::Display for Fault {
+    ghost output = { λ f. Some (fault_text f) };
+
     fn fmt<W: fmt::Write>(&self, f: &mut fmt::Formatter<W>) -> fmt::Result {
         let number = self.number();
         let cause = self.cause();
