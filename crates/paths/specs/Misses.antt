@@ -1,15 +1,48 @@
 -- Near misses: small changes to the rounds that would show something of the plan, or catch nobody. Assumes nothing.
-use Rattle.std.specs.Prelude.{◌≡◌, ℕ, ◌+◌, ◌-◌, ◌%◌, ◌<◌, T, ◌≢◌, List, [], ◌∷◌, map, length, replicate}
+use Rattle.std.specs.Prelude.{◌≡◌, ℕ, ◌+◌, ◌-◌, ◌%◌, ◌<◌, T, ◌≢◌, ◌⊎◌, List, [], ◌∷◌, map, length, replicate}
 use Rattle.paths.specs.Plan.{Task, Good, Plan, at, fits, all_below, different}
 use Rattle.paths.specs.Show.{Coin, Asker, box_of, pair_at, round, view}
 use Rattle.paths.specs.Cheat.{passes, up_to}
 use Rattle.paths.specs.Promise.{IsCoin}
+use Rattle.paths.specs.Paired.{AlikeBy}
 
--- An order used twice shows whether two trains have the same path: one is opened in the one round, one in the other.
-abbrev pub OrderTwice : Type 0
-OrderTwice =
-    (t : Task) (p : Plan) → T (fits t p) → (c d : Coin) → IsCoin t c → c.order ≡ d.order → (x y : ℕ) → x < t.trains → y < t.trains →
-    ((box_of p c x).holds ≡ (box_of p d y).holds → at p x ≡ at p y) × (at p x ≡ at p y → (box_of p c x).holds ≡ (box_of p d y).holds)
+-- coins of two rounds that have one order
+abbrev pub OneOrder : Task → Coin → Coin → Type 0
+OneOrder t c d = IsCoin t c × IsCoin t d × (c.order ≡ d.order)
+
+-- a train of pair i
+abbrev pub IsOf : Task → ℕ → ℕ → Type 0
+IsOf t i x = (x ≡ (pair_at t i).a) ⊎ (x ≡ (pair_at t i).e)
+
+-- an asker who asks for pair i first, and then for pair j
+abbrev pub first_then : ℕ → ℕ → Asker
+first_then i j [] = i
+first_then i j (s ∷ ss) = j
+
+-- four trains, of which the first two may not share one of three paths, nor the last two
+abbrev pub two_duos : Task
+two_duos = record { trains = 4; paths = 3; pairs = record { a = 0; e = 1 } ∷ record { a = 2; e = 3 } ∷ [] }
+
+-- two of its plans: the last train has the path of train 1, or its own
+abbrev pub shared : Plan
+shared = 0 ∷ 1 ∷ 0 ∷ 1 ∷ []
+
+abbrev pub own : Plan
+own = 0 ∷ 1 ∷ 0 ∷ 2 ∷ []
+
+-- An order used twice gives the plan away: it shows whether two trains have the same path, where one is opened in the one round, and one in the other. So of two plans, by
+-- one of which they have it and by the other not, never the same is seen, whatever the orders: as of two that fit two_duos. With an order for each round the same is seen of these.
+pub record OrderTwice : Type 0 where
+  pub shows : (t : Task) (p : Plan) → T (fits t p) → (c d : Coin) → IsCoin t c → c.order ≡ d.order → (x y : ℕ) → x < t.trains → y < t.trains →
+      ((box_of p c x).holds ≡ (box_of p d y).holds → at p x ≡ at p y) × (at p x ≡ at p y → (box_of p c x).holds ≡ (box_of p d y).holds)
+  pub tells : (t : Task) → Good t → (p q : Plan) → T (fits t p) → T (fits t q) → (i j : ℕ) → i < length t.pairs → j < length t.pairs → (x y : ℕ) → IsOf t i x → IsOf t j y →
+      at p x ≡ at p y → at q x ≢ at q y → (c d e g : Coin) → OneOrder t c d → OneOrder t e g →
+      view t p (first_then i j) (c ∷ d ∷ []) ≢ view t q (first_then i j) (e ∷ g ∷ [])
+  pub shared_fits : T (fits two_duos shared)
+  pub own_fits : T (fits two_duos own)
+  pub never : (c d e g : Coin) → OneOrder two_duos c d → OneOrder two_duos e g →
+      view two_duos shared (first_then 0 1) (c ∷ d ∷ []) ≢ view two_duos own (first_then 0 1) (e ∷ g ∷ [])
+  pub fresh : AlikeBy two_duos shared own (first_then 0 1) 2
 
 -- an order that only turns the ring of k paths by d
 abbrev pub turned : ℕ → ℕ → List ℕ
