@@ -100,10 +100,6 @@ gives view (Err f) = refused (number f)
 abbrev pub looks : Result Looked Fault → Got Looked
 looks = gives (λ x. x)
 
--- The answer is what is given, or memory was wanting
-abbrev pub Answers : {X A : Type 0} → (X → A) → Result X Fault → Got A → Type 0
-Answers view r g = (gives view r ≡ g) ⊎ (r ≡ Err Memory)
-
 -- The answer is what is given; only where that is a value memory may be wanting
 abbrev pub Meets : {X A : Type 0} → (X → A) → Result X Fault → Got A → Type 0
 Meets {A} view r g = (gives view r ≡ g) ⊎ ((r ≡ Err Memory) × ((x : A) × (g ≡ got x)))
