@@ -1,8 +1,11 @@
 // One word read from a stream, and no byte of the next.
-ghost use Rattle.std.specs.Prelude.{◌≡◌, ◌<◌, ◌≤◌, ◌++◌, length, take, vec_len, ⊤, IfOk, IfSome, MatchResult, OnOk, OnSome};
+ghost use Rattle.std.specs.Prelude.{◌≡◌, ◌≢◌, ◌<◌, ◌≤◌, ◌++◌, length, take, vec_len, IfErr, IfOk, IfSome, MatchResult, OnOk, OnSome};
 ghost use Rattle.std.specs.ControlFlow.{IsContinueAnd, ForBreak};
 ghost use Rattle.std.specs.Io.KnownBytes.{Consumes, IsAtEnd};
+ghost use Rattle.std.specs.IoError.{error_kind};
+ghost use Rattle.std.specs.declared.io.ErrorKind.TheVariants.{Interrupted};
 ghost use Rattle.tasks.specs.Model.{task_of};
+ghost use Rattle.line.specs.declared.error.LineError.TheVariants.{Stream};
 ghost use Rattle.line.specs.Wanted.{Wanted, OneWord, Ended, ExactWord, Taken};
 
 use super::error::LineError;
@@ -58,7 +61,8 @@ fn take_part<R: BufRead>(
 }
 
 fn interrupted(error: io::Error) -> Result<ControlFlow<()>, LineError>
-    ensures { IfOk result (λ go. IsContinueAnd go (λ _. ⊤)) }
+    ensures again { IfOk result (λ go. IsContinueAnd go (λ _. error_kind error ≡ Interrupted)) }
+    ensures told { IfErr result (λ e. (e ≡ Stream error) × (error_kind error ≢ Interrupted)) }
 {
     if error.kind() == ErrorKind::Interrupted {
         Ok(ControlFlow::Continue(()))
