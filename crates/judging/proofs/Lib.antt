@@ -7,3 +7,4 @@ pub mod Passes
 pub mod Binds
 pub mod Redraws
 pub mod Contents
+pub mod Finding

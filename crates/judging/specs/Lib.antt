@@ -8,3 +8,4 @@ pub mod Honest
 pub mod Binding
 pub mod Redrawing
 pub mod Contents
+pub mod Finding

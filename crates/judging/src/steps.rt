@@ -14,6 +14,7 @@ ghost use Rattle.judging.specs.Laws.{Folds, FrontServes, BookFirst};
 ghost use Rattle.judging.specs.Honest.{HonestPasses};
 ghost use Rattle.judging.specs.Contents.{TellsContent};
 ghost use Rattle.judging.specs.Redrawing.{TellsDifference};
+ghost use Rattle.judging.specs.Finding.{FirstCounts};
 ghost use Rattle.judging.specs.Binding.{WordsBind, NoOtherWords};
 
 use super::judge::Judge;
@@ -136,7 +137,7 @@ impl Judge {
         }
     }
 
-    // Told apart from `end`, whose eight laws would have to be shown at each of these answers.
+    // Told apart from `end`, whose nine laws would have to be shown at each of these three answers: of laws that `using` names there, the check finds only some.
     fn tell(&self, digest: [u8; 32]) -> Verdict
         ensures { verdict_of result ≡ finish (judge_of self.now) digest }
     {
@@ -149,8 +150,8 @@ impl Judge {
         Verdict::Judged(self.round, self.content, self.redrawn)
     }
 
-    // The verdict after the last word, by the digest that was signed. In one pass the words are told what is to be told of them, and nothing where they don't fit
-    // the digest; an honest planner passes, and no other words fit its last digest, unless two texts of one digest are at hand.
+    // The verdict after the last word, by the digest that was signed. In one pass the words are told what is to be told of them, of findings the first, and nothing
+    // where they don't fit the digest; an honest planner passes, and no other words fit its last digest, unless two texts of one digest are at hand.
     pub fn end(self, digest: [u8; 32]) -> Verdict
         ensures verdict { verdict_of result ≡ finish (judge_of self) digest }
         ensures folds { Folds sha256 }
@@ -158,6 +159,7 @@ impl Judge {
         ensures book_first { BookFirst sha256 }
         ensures content { TellsContent sha256 }
         ensures differs { TellsDifference sha256 }
+        ensures first { FirstCounts sha256 }
         ensures honest { HonestPasses sha256 }
         ensures bind { WordsBind sha256 }
         ensures no_other { NoOtherWords sha256 }
