@@ -1,5 +1,5 @@
 -- What is found are two openings of one box. Assumes nothing.
-use Rattle.std.proofs.Common.{◌≡◌, ℕ, ◌+◌, true, false, not, eqb, ltb, List, [], ◌∷◌, map, length, drop, sym, refl, ap, ◌∙◌, subst, inl, inr, arith}
+use Rattle.std.proofs.Common.{◌≡◌, ℕ, ◌+◌, true, false, not, eqb, ltb, List, [], ◌∷◌, map, length, drop, sym, refl, ap, ◌∙◌, subst, inl, inr}
 use Rattle.std.specs.List.{flat_map, AllByRecursion as All}
 use Rattle.std.proofs.ByRecursion.{All-append}
 use Rattle.std.proofs.lemmas.Bool.{and_from, and_parts, both_ways, cases_Bool, cond_both, eqb-true, not_from_false, not-true}
@@ -83,7 +83,7 @@ module _ (H : List ℕ → List ℕ) (other : Other) where
     turn-shows (i ∷ is) n d line =
         let s = ready H other t r n d in
         cond_both (ltb n r) (on s) (out _) (λ lead. All Shows (texts_along H other (i ∷ is) lead line))
-        (λ _. All-append Shows (texts_at H other s line) _ (twos_show line n _ (all_open H other s good line (length t.pairs) (omega arith)))
+        (λ _. All-append Shows (texts_at H other s line) _ (twos_show line n _ (all_open H other s good line))
         (by_round H other t r n d line i (λ g. All Shows (texts_along H other is g.to g.line)) (λ o l e. out-shows is o l) (λ e l a. turn-shows is (n + 1) e l)))
         (λ _. tt)
 

@@ -1,14 +1,12 @@
--- One point of the line: where the asker accepts an answer to every question, the openings hold a plan that fits, or two of their texts collide. Assumes nothing.
-use Rattle.std.proofs.Common.{◌≡◌, ℕ, zero, suc, ◌^◌, ◌<◌, ◌≤◌, Bool, true, false, cond, T, eqb, List, [], ◌∷◌, ◌++◌, map, length, drop, sym, refl, ap, ◌∙◌, subst, inl, inr, arith}
+-- One point of the line: where the asker accepts an answer to every question and no two texts of the openings collide, they tell a plan that fits. Assumes nothing.
+use Rattle.std.proofs.Common.{◌≡◌, ℕ, zero, suc, ◌^◌, ◌<◌, Bool, true, false, cond, T, eqb, ◌≢◌, List, [], ◌∷◌, ◌++◌, map, length, drop, sym, refl, ap, ◌∙◌, subst, inl, inr, arith}
 use Rattle.std.specs.List.{AllByRecursion as All}
 use Rattle.std.proofs.ByRecursion.{All-append}
-use Rattle.std.proofs.lemmas.Bool.{and_from, both_ways, cases_Bool, cases_eq, cond_both, eq-eqb, eqb-true, eqb-false, lt-ltb, ne_eqb, not_from_false, or_parts}
-use Rattle.paths.specs.Plan.{Task, Plan, Good, fits}
-use Rattle.paths.specs.Show.{pair_at, content}
-use Rattle.paths.specs.Cheat.{up_to, shown_by}
-use Rattle.paths.proofs.Rows.{pairs-at, at_made, length_made}
-use Rattle.paths.proofs.Content.{reads_clipped}
-use Rattle.drawing.proofs.Tests.{from_true}
+use Rattle.std.proofs.lemmas.Bool.{both_ways, cases_Bool, cases_eq, cond_both, eq-eqb, eqb-true, eqb-false, or_parts}
+use Rattle.paths.specs.Plan.{Task, Plan, Good, at, fits}
+use Rattle.paths.specs.Show.{pair_at}
+use Rattle.paths.proofs.Rows.{at-below, at-apart, pairs-at, at_made, length_made}
+use Rattle.paths.proofs.Paired.{fits_from}
 use Rattle.tasks.specs.Reading.{Got, Looked, got, refused}
 use Rattle.tasks.specs.Task.{sound, lowest}
 use Rattle.tasks.proofs.TaskLaws.{guarantees}
@@ -24,17 +22,13 @@ use Rattle.asking.specs.Asking.{Ready}
 use Rattle.round.specs.Contents.{Contents}
 use Rattle.round.proofs.Contents.{contents}
 use Rattle.soundness.specs.Texts.{says, answer, accepted, openings_of, openings, of_train, twos, texts_at}
+use Rattle.soundness.specs.Knows.{number_of, plan_at}
 use Rattle.soundness.proofs.Runs.{accepts}
 use Rattle.soundness.proofs.Hits.{hit, hit_more, hit_append}
 
 all-parts : {X : Type 0} (P : X → Type 0) (xs ys : List X) → All P (xs ++ ys) → All P xs × All P ys
 all-parts P [] ys h = (tt, h)
 all-parts P (x ∷ xs) ys h = let q = all-parts P xs ys h.1 in ((h.0, q.0), q.1)
-
--- the number of the first opening of a train, else 0
-number_of : ℕ → List Opening → ℕ
-number_of j [] = 0
-number_of j (x ∷ xs) = cond (eqb x.train j) x.number (number_of j xs)
 
 -- openings that agree: no two of one train with different numbers
 abbrev Same : Opening → Opening → Type 0
@@ -58,6 +52,11 @@ tells : (xs : List Opening) → Agree xs → All (Tells xs) xs
 unfolding number_of
 tells [] a = tt
 tells (x ∷ xs) a = (rw (eq-eqb x.train x.train refl), tells_more x xs xs a.0 (tells xs a.1))
+
+number_below : (k j : ℕ) → 0 < k → (xs : List Opening) → All (λ x. x.number < k) xs → number_of j xs < k
+unfolding number_of
+number_below k j l [] h = l
+number_below k j l (x ∷ xs) h = cond_both (eqb x.train j) x.number (number_of j xs) (λ n. n < k) (λ _. h.0) (λ _. number_below k j l xs h.1)
 
 module _ (H : List ℕ → List ℕ) (n : ℕ) (ds : List ℕ) where
   abbrev pub Opens : Opening → Type 0
@@ -115,26 +114,33 @@ module _ (H : List ℕ → List ℕ) (other : Other) (s : Ready) (good : sound s
       is_got_lem (got u) e = refl
       is_got_lem (refused f) e = absurd (both_ways _ refl e)
 
-  opens : (i : ℕ) → i < length t.pairs → All (Opens H s.round ds) (accepted H other s line i)
-  opens i l =
+  -- what holds of any two openings that content the asker holds of all that are accepted
+  of_accepted : (P : Opening → Type 0) (i : ℕ) → ((x y : Opening) → Contents H t s.round i ds x y → P x × P y) → All P (accepted H other s line i)
+  of_accepted P i h =
       elim (cases_Bool (accepts H other s line i)) [
         | inl e ↦ (
             let c = two i e in
-            let k = c.3 in
-            subst (All (Opens H s.round ds)) (sym c.2) ((few k.first there.0, k.first_opens), ((few k.second there.1, k.second_opens), tt)))
-        | inr e ↦ subst (λ b. All (Opens H s.round ds) (cond b (openings_of (answer other s line i)) [])) (sym e) tt
+            let p = h c.0 c.1 c.3 in
+            subst (All P) (sym c.2) (p.0, (p.1, tt)))
+        | inr e ↦ subst (λ b. All P (cond b (openings_of (answer other s line i)) [])) (sym e) tt
       ]
-    where
-      there : ((pair_at t i).a < t.trains) × ((pair_at t i).e < t.trains)
-      there = pairs-at t.trains t.pairs lowest good_task.0 i l
 
-      few : {a b : ℕ} → a ≡ b → b < t.trains → a < 2 ^ 16
-      few e l = omega (arith, (guarantees t good).few_trains)
-
-  pub all_open : (m : ℕ) → m ≤ length t.pairs → All (Opens H s.round ds) (openings H other s line m)
+  of_all : (P : Opening → Type 0) (m : ℕ) → ((i : ℕ) → i < m → (x y : Opening) → Contents H t s.round i ds x y → P x × P y) → All P (openings H other s line m)
   unfolding openings
-  all_open zero l = tt
-  all_open (suc m) l = All-append (Opens H s.round ds) (openings H other s line m) (accepted H other s line m) (all_open m (omega arith)) (opens m (omega arith))
+  of_all P zero h = tt
+  of_all P (suc m) h = All-append P (openings H other s line m) (accepted H other s line m) (of_all P m (λ i l. h i (omega arith))) (of_accepted P m (h m (omega arith)))
+
+  there : (i : ℕ) → i < length t.pairs → ((pair_at t i).a < t.trains) × ((pair_at t i).e < t.trains)
+  there = pairs-at t.trains t.pairs lowest good_task.0
+
+  few : {a b : ℕ} → a ≡ b → b < t.trains → a < 2 ^ 16
+  few e l = omega (arith, (guarantees t good).few_trains)
+
+  abbrev pub all : List Opening
+  all = openings H other s line (length t.pairs)
+
+  pub all_open : All (Opens H s.round ds) all
+  all_open = of_all (Opens H s.round ds) (length t.pairs) (λ i l x y k. ((few k.first (there i l).0, k.first_opens), (few k.second (there i l).1, k.second_opens)))
 
   -- what holds of all openings holds of those of one question
   of_one : (P : Opening → Type 0) (m : ℕ) → All P (openings H other s line m) → (i : ℕ) → i < m → All P (accepted H other s line i)
@@ -144,26 +150,28 @@ module _ (H : List ℕ → List ℕ) (other : Other) (s : Ready) (good : sound s
       let q = all-parts P (openings H other s line m) (accepted H other s line m) h in
       elim (cases_eq i m) [ inl e ↦ subst (λ j. All P (accepted H other s line j)) (sym e) q.1 | inr ne ↦ of_one P m q.0 i (omega arith) ]
 
-  abbrev all : List Opening
-  all = openings H other s line (length t.pairs)
+  abbrev told : ℕ → ℕ
+  told j = number_of j all
 
-  plan : Plan
-  plan = map (λ j. number_of j all) (up_to t.trains)
+  abbrev plan : Plan
+  plan = plan_at H other s line
+
+  told_below : (j : ℕ) → told j < t.paths
+  told_below j = number_below t.paths j good_task.2 all (of_all (λ x. x.number < t.paths) (length t.pairs) (λ i l x y k. (k.first_there, k.second_there)))
 
   module _ (e : hit H (texts_at H other s line) ≡ false) (h : (i : ℕ) → i < length t.pairs → accepts H other s line i ≡ true) where
-    -- the plan makes the asker content
-    content_all_lem : (i : ℕ) → i < length t.pairs → T (content t (shown_by t plan i))
-    unfolding plan
-    content_all_lem i l =
+    -- the two trains of each pair have the numbers that they were opened with
+    differ : (i : ℕ) → i < length t.pairs → at plan (pair_at t i).a ≢ at plan (pair_at t i).e
+    differ i l =
         let c = two i (h i l) in
         let k = c.3 in
-        let there = pairs-at t.trains t.pairs lowest good_task.0 i l in
-        let agreed = agree H s.round ds all (all_open (length t.pairs) (omega arith)) e in
-        let told = subst (All (Tells all)) c.2 (of_one (Tells all) (length t.pairs) (tells all agreed) i l) in
-        let x = at_made (λ j. number_of j all) t.trains (pair_at t i).a there.0 ∙ ap (λ j. number_of j all) (sym k.first) ∙ told.0 in
-        let y = at_made (λ j. number_of j all) t.trains (pair_at t i).e there.1 ∙ ap (λ j. number_of j all) (sym k.second) ∙ told.1.0 in
-        rw (x, y) (from_true _ (and_from _ _ (and_from _ _ (lt-ltb _ _ k.first_there) (lt-ltb _ _ k.second_there)) (not_from_false _ (ne_eqb _ _ k.different))))
+        let agreed = agree H s.round ds all all_open e in
+        let said = subst (All (Tells all)) c.2 (of_one (Tells all) (length t.pairs) (tells all agreed) i l) in
+        let x = at_made told t.trains (pair_at t i).a (there i l).0 ∙ ap told (sym k.first) ∙ said.0 in
+        let y = at_made told t.trains (pair_at t i).e (there i l).1 ∙ ap told (sym k.second) ∙ said.1.0 in
+        rw (x, y) k.different
 
-    pub caught : ((p : Plan) → T (fits t p) → ⊥) → ⊥
-    unfolding plan
-    caught none = none _ (reads_clipped t good_task plan (length_made (λ j. number_of j all) t.trains) content_all_lem).fit
+    pub plan-fits : T (fits t plan)
+    plan-fits =
+        let long = length_made told t.trains in
+        fits_from t plan long (at-below t.paths plan (λ j l. rw (at_made told t.trains j (omega arith)) (told_below j))) (at-apart plan t.pairs lowest differ)

@@ -1,5 +1,5 @@
 -- Soundness as a share of all rows of drawn bytes. Assumes nothing.
-use Rattle.std.proofs.Common.{◌≡◌, ℕ, ◌+◌, ◌-◌, ◌*◌, ◌/◌, ◌%◌, ◌^◌, ◌<◌, ◌≤◌, Bool, true, false, ◌&&◌, List, length, refl, ap, ◌∙◌, subst, inl, inr, mul-le-mul_right, mul-le-mul_left, arith}
+use Rattle.std.proofs.Common.{◌≡◌, ℕ, ◌+◌, ◌-◌, ◌*◌, ◌/◌, ◌%◌, ◌^◌, ◌<◌, ◌≤◌, Bool, true, false, not, ◌&&◌, List, length, refl, ap, ◌∙◌, subst, inl, inr, mul-le-mul_right, mul-le-mul_left, arith}
 use native.Mathlib.Nat.{le_of_mul-le-mul_left, one-le-pow}
 use Rattle.paths.specs.Plan.{Task}
 use Rattle.paths.specs.Cheat.{asks, count}
@@ -11,16 +11,16 @@ use Rattle.drawing.proofs.Even.{question_shares}
 use Rattle.drawing.proofs.Rounds.{enough}
 use Rattle.tasks.specs.Task.{sound}
 use Rattle.tasks.proofs.TaskLaws.{guarantees}
-use Rattle.boxes.specs.Binding.{collides}
 use Rattle.lots.specs.Lots.{on_bytes, had_by}
 use Rattle.lots.proofs.Coins.{questions_in-turn}
 use Rattle.words.specs.Writing.{is_got}
 use Rattle.round.specs.Line.{Other}
 use Rattle.soundness.specs.Questioned.{asking_on, questions_in}
-use Rattle.soundness.specs.Texts.{met}
+use Rattle.asking.specs.Run.{asking}
 use Rattle.soundness.specs.Sound.{passes, serves, pairs_of, passing, serving, breaking, SoundAlongDrawn, SoundDrawn, SoundAlongEnough, SoundEnough}
+use Rattle.soundness.specs.Knows.{at_hand, blindly, knowing, KnowsAlongDrawn, KnowsEnough}
 use Rattle.soundness.proofs.Runs.{few_pass, same_runs, Turns, turns}
-use Rattle.soundness.proofs.Bounds.{sound-along, sound-whole}
+use Rattle.soundness.proofs.Bounds.{knows_along, texts_alone, sound-whole}
 
 module _ (t : Task) (r : ℕ) where
   abbrev moduli : List ℕ
@@ -84,9 +84,6 @@ module _ (H : List ℕ → List ℕ) (other : Other) (t : Task) (good : sound t 
   abbrev won : List ℕ → Bool
   won is = passes (asking_on H other t r is)
 
-  abbrev found : List ℕ → Bool
-  found is = collides H (met H other t r is)
-
   -- how often drawn values give questions that pass a test
   abbrev drawn-such : (List ℕ → Bool) → ℕ
   drawn-such p = how_many (2 ^ 32) (question_moduli (pairs_of t) r) p (size / 4)
@@ -97,23 +94,49 @@ module _ (H : List ℕ → List ℕ) (other : Other) (t : Task) (good : sound t 
   serves-counted : serving t r size ≡ drawn-such (λ _. true) * 256 ^ (size % 4)
   serves-counted = counted t r (serves t r) (λ _. true) (serves_is t r) size
 
-  found_counted : breaking H other t r size ≡ drawn-such found * 256 ^ (size % 4)
-  found_counted = counted t r _ found (serve-test_is t r found) size
+  -- where it passes, and some test of the questions fails
+  apart-counted : (q : List ℕ → Bool) →
+      count (λ drawn. passes (asking H other t r drawn) && not (q (questions_in t r drawn))) (asks 256 size) ≡ drawn-such (λ is. won is && not (q is)) * 256 ^ (size % 4)
+  apart-counted q =
+      counted t r _ (λ is. won is && not (q is))
+      (λ drawn. ap (λ x. passes x && not (q (questions_in t r drawn))) (same_runs H other t r drawn)
+      ∙ test_is t r (λ is. won is && not (q is)) (λ is l. ap (λ b. b && not (q is)) (few_pass H other t r is l)) drawn) size
 
-  pub along_share : count won (asks (pairs_of t) r) ≤ (pairs_of t - 1) ^ r + count found (asks (pairs_of t) r) →
-      pairs_of t ^ r * passing H other t r size ≤ (pairs_of t - 1) ^ r * serving t r size + pairs_of t ^ r * breaking H other t r size
-  along_share l =
-      rw (won_counted, serves-counted, found_counted)
-      (share_more (pairs_of t ^ r) ((pairs_of t - 1) ^ r) (drawn-such won) (drawn-such (λ _. true)) (drawn-such found) (256 ^ (size % 4)) _ _
-      (shared t r good won (size / 4)) (shared t r good found (size / 4)) l)
+  pub along_share : (q : List ℕ → Bool) → count won (asks (pairs_of t) r) ≤ (pairs_of t - 1) ^ r + count q (asks (pairs_of t) r) →
+      pairs_of t ^ r * passing H other t r size
+      ≤ (pairs_of t - 1) ^ r * serving t r size + pairs_of t ^ r * count (λ drawn. serves t r drawn && q (questions_in t r drawn)) (asks 256 size)
+  along_share q l =
+      rw (won_counted, serves-counted, counted t r _ q (serve-test_is t r q) size)
+      (share_more (pairs_of t ^ r) ((pairs_of t - 1) ^ r) (drawn-such won) (drawn-such (λ _. true)) (drawn-such q) (256 ^ (size % 4)) _ _
+      (shared t r good won (size / 4)) (shared t r good q (size / 4)) l)
 
   pub whole_share : count won (asks (pairs_of t) r) ≤ (pairs_of t - 1) ^ r → pairs_of t ^ r * passing H other t r size ≤ (pairs_of t - 1) ^ r * serving t r size
   whole_share l =
       rw (won_counted, serves-counted)
       (share (pairs_of t ^ r) ((pairs_of t - 1) ^ r) (drawn-such won) (drawn-such (λ _. true)) (256 ^ (size % 4)) _ (shared t r good won (size / 4)) l)
 
+  pub apart_share : (q : List ℕ → Bool) → count (λ is. won is && not (q is)) (asks (pairs_of t) r) ≤ (pairs_of t - 1) ^ r →
+      pairs_of t ^ r * count (λ drawn. passes (asking H other t r drawn) && not (q (questions_in t r drawn))) (asks 256 size) ≤ (pairs_of t - 1) ^ r * serving t r size
+  apart_share q l =
+      rw (apart-counted q, serves-counted)
+      (share (pairs_of t ^ r) ((pairs_of t - 1) ^ r) (drawn-such (λ is. won is && not (q is))) (drawn-such (λ _. true)) (256 ^ (size % 4)) _
+      (shared t r good (λ is. won is && not (q is)) (size / 4)) l)
+
+pub knows-along-drawn : KnowsAlongDrawn
+knows-along-drawn H other t good r =
+    let k = knows_along H other t good r in
+    record {
+      blind = λ size. apart_share H other t good r size (at_hand H other t r) k.blind;
+      knows = λ size. along_share H other t good r size (at_hand H other t r) k.knows;
+    }
+
 pub sound-along-drawn : SoundAlongDrawn
-sound-along-drawn H other t good none r size = along_share H other t good r size (sound-along H other t good none r)
+sound-along-drawn H other t good none r size =
+    subst (λ n. pairs_of t ^ r * passing H other t r size ≤ (pairs_of t - 1) ^ r * serving t r size + pairs_of t ^ r * n) alone
+    ((knows-along-drawn H other t good r).knows size)
+  where
+    alone : knowing H other t r size ≡ breaking H other t r size
+    alone = count_same _ _ (λ drawn. ap (λ b. serves t r drawn && b) (texts_alone H other t none r (questions_in t r drawn))) (asks 256 size)
 
 pub sound-drawn : SoundDrawn
 sound-drawn H other t good none r size =
@@ -128,6 +151,15 @@ module _ (t : Task) (good : sound t ≡ true) where
   fortyfold P S F l =
       let r = 40 * pairs_of t in
       cancel (pairs_of t ^ r) ((pairs_of t - 1) ^ r) P S F (2 ^ 40) (one-le-pow r (pairs_of t) some) (enough (pairs_of t) some) l
+
+pub knows-enough : KnowsEnough
+knows-enough H other t good =
+    let r = 40 * pairs_of t in
+    let k = knows-along-drawn H other t good r in
+    record {
+      blind = λ size. omega (arith, fortyfold t good (blindly H other t r size) (serving t r size) 0 (omega (arith, k.blind size)));
+      knows = λ size. fortyfold t good _ _ _ (k.knows size);
+    }
 
 pub sound-along-enough : SoundAlongEnough
 sound-along-enough H other t good none size = fortyfold t good _ _ _ (sound-along-drawn H other t good none (40 * pairs_of t) size)

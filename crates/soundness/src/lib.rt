@@ -6,6 +6,8 @@ ghost use Rattle.std.specs.Prelude.{ℕ, List};
 ghost use Rattle.round.specs.Line.{Other};
 ghost use Rattle.soundness.specs.Examples.{Examples};
 ghost use Rattle.soundness.specs.Found.{FoundBoxes};
+ghost use Rattle.soundness.specs.Knows.{KnowsAlong, KnowsAlongDrawn, KnowsEnough, OneEach};
+ghost use Rattle.soundness.specs.ReadOff.{ReadOff};
 ghost use Rattle.soundness.specs.Questioned.{RunsOn};
 ghost use Rattle.soundness.specs.Texts.{PutsFew};
 ghost use Rattle.soundness.specs.Sound.{Sound, SoundAlong, SoundAlongDrawn, SoundDrawn, SoundAlongEnough, SoundEnough};
@@ -20,7 +22,7 @@ pub fn runs_hold()
 {}
 
 // Where no plan fits, whatever a planner says: it passes in few ways to ask, or two texts of one digest are at hand; and so of all drawn bytes. The texts are of
-// one box that it opened in two ways.
+// one box that it opened in two ways. And of any task: it passes in few ways along which neither such texts nor a plan that fits are read off its own answers.
 pub fn soundness_holds()
     ensures along { SoundAlong }
     ensures whole { Sound }
@@ -30,9 +32,14 @@ pub fn soundness_holds()
     ensures whole_enough { SoundEnough }
     ensures found { FoundBoxes }
     ensures few { (hash : List ℕ → List ℕ) (other : Other) → PutsFew hash other }
+    ensures knows { KnowsAlong }
+    ensures knows_drawn { KnowsAlongDrawn }
+    ensures knows_enough { KnowsEnough }
+    ensures knows_few { (hash : List ℕ → List ℕ) (other : Other) → OneEach hash other }
 {}
 
-// The bound is met, and the texts are found: two planners, computed.
+// The bound is met, and the texts are found: two planners, computed. And a plan is read off where it is known: three more.
 pub fn examples_hold()
-    ensures { Examples }
+    ensures cheats { Examples }
+    ensures read_off { ReadOff }
 {}

@@ -1,5 +1,5 @@
+use Rattle.soundness.proofs.Examples.{examples, read_off}
 use Rattle.soundness.proofs.examples_hold.Goals as goal
-use Rattle.soundness.proofs.Examples.{examples}
 
 pub returns : goal.returns
-returns c = examples
+returns c = record { cheats = examples; read_off = read_off }

@@ -1,8 +1,8 @@
 -- Each is proved where it is brought from.
-use Rattle.soundness.proofs.Bounds.{sound-along, sound-whole}
+use Rattle.soundness.proofs.Bounds.{one_each, knows_along, sound-along, sound-whole}
 use Rattle.soundness.proofs.Few.{puts_few}
 use Rattle.soundness.proofs.Found.{found_boxes}
-use Rattle.soundness.proofs.Shares.{sound-along-drawn, sound-drawn, sound-along-enough, sound-enough}
+use Rattle.soundness.proofs.Shares.{knows-along-drawn, knows-enough, sound-along-drawn, sound-drawn, sound-along-enough, sound-enough}
 use Rattle.soundness.proofs.soundness_holds.Goals as goal
 
 pub returns : goal.returns
@@ -16,4 +16,8 @@ returns c =
       whole_enough = sound-enough;
       found = found_boxes;
       few = puts_few;
+      knows = knows_along;
+      knows_drawn = knows-along-drawn;
+      knows_enough = knows-enough;
+      knows_few = one_each;
     }

@@ -1,8 +1,8 @@
 use Rattle.sha256.specs.Sha256.{sha256}
-use Rattle.soundness.proofs.Bounds.{sound-along, sound-whole}
+use Rattle.soundness.proofs.Bounds.{knows_along, one_each, sound-along, sound-whole}
 use Rattle.soundness.proofs.Few.{puts_few}
 use Rattle.soundness.proofs.Found.{found_boxes}
-use Rattle.soundness.proofs.Shares.{sound-along-drawn, sound-drawn, sound-along-enough, sound-enough}
+use Rattle.soundness.proofs.Shares.{knows-along-drawn, knows-enough, sound-along-drawn, sound-drawn, sound-along-enough, sound-enough}
 use Rattle.joined.proofs.Cases.{all-cases, all_faults}
 use Rattle.joined.proofs.Joins.{joins}
 use Rattle.joined.proofs.Refused.{refused_ends}
@@ -23,6 +23,10 @@ returns c =
       few = puts_few sha256;
       along_enough = sound-along-enough;
       enough = sound-enough;
+      knows = knows_along;
+      knows_drawn = knows-along-drawn;
+      knows_enough = knows-enough;
+      knows_few = one_each sha256;
       joined = joins;
       runs = sides_run sha256;
       joins = joined_is;
