@@ -14,11 +14,15 @@ use Rattle.boxes.proofs.Binds.{same_opening_lem}
 use Rattle.round.specs.Line.{Event, heard, Other}
 use Rattle.round.specs.Over.{Over, on, out}
 use Rattle.round.specs.Round.{part_of}
-use Rattle.asking.specs.Asking.{turn}
+use Rattle.asking.specs.Asking.{Ready, turn}
 use Rattle.soundness.specs.Texts.{first_of, of_train, twos, texts_at, texts_along, texts_in}
-use Rattle.soundness.specs.Found.{BoxTwice, FoundBoxes}
+use Rattle.soundness.specs.Found.{SaidThere, BoxTwice, FoundBoxes}
 use Rattle.soundness.proofs.Runs.{ready, by_round, by_task}
-use Rattle.soundness.proofs.Points.{Opens, all_open}
+use Rattle.soundness.proofs.Points.{Opens, all_open, all_said}
+
+both : (P Q : Opening → Type 0) (xs : List Opening) → All P xs → All Q xs → All (λ x. P x × Q x) xs
+both P Q [] h k = tt
+both P Q (x ∷ xs) h k = ((h.0, k.0), both P Q xs h.1 k.1)
 
 module _ (H : List ℕ → List ℕ) (other : Other) where
   -- if these texts collide, they are of one box
@@ -34,17 +38,26 @@ module _ (H : List ℕ → List ℕ) (other : Other) where
   all-joined f h [] = tt
   all-joined f h (x ∷ xs) = All-append Shows (f x) (flat_map f xs) (h x) (all-joined f h xs)
 
-  module _ (line : List Event) (n : ℕ) where
+  module _ (s : Ready) (line : List Event) where
+    abbrev n : ℕ
+    n = s.round
+
     abbrev ds : List ℕ
     ds = drop 7 (other line)
 
-    two_show : (x y : Opening) → Opens H n ds x → Opens H n ds y → y.train ≡ x.train → Shows (texts_of n x y)
-    two_show x y o p e c =
+    -- an opening that the planner says here, and that opens its box
+    abbrev Is : Opening → Type 0
+    Is x = Opens H n ds x × SaidThere other s line x
+
+    two_show : (x y : Opening) → Is x → Is y → y.train ≡ x.train → Shows (texts_of n x y)
+    two_show x y (o, o_said) (p, p_said) e c =
         record {
+          state = s;
           line = line;
-          round = n;
           one = x;
           two = y;
+          one_said = o_said;
+          two_said = p_said;
           texts = refl;
           train = sym e;
           twice = and_from _ _ (and_from _ _ (not_from_false _ other_opening_lem) ((same_decides _ _).1 o.1)) ((same_decides _ _).1 (p.1 ∙ ap (part_of ds) e));
@@ -60,13 +73,13 @@ module _ (H : List ℕ → List ℕ) (other : Other) where
               | inr s ↦ s
             ]
 
-    one-shows : (x : Opening) → Opens H n ds x → (ys : List Opening) → All (Opens H n ds) ys → All Shows (map (texts_of n x) (of_train x.train ys))
+    one-shows : (x : Opening) → Is x → (ys : List Opening) → All Is ys → All Shows (map (texts_of n x) (of_train x.train ys))
     one-shows x o [] os = tt
     one-shows x o (y ∷ ys) os =
         cond_both (eqb y.train x.train) (y ∷ of_train x.train ys) (of_train x.train ys) (λ zs. All Shows (map (texts_of n x) zs))
         (λ e. (two_show x y o os.0 (eqb-true _ _ e), one-shows x o ys os.1)) (λ _. one-shows x o ys os.1)
 
-    twos_show : (xs : List Opening) → All (Opens H n ds) xs → All Shows (twos n xs)
+    twos_show : (xs : List Opening) → All Is xs → All Shows (twos n xs)
     unfolding twos
     twos_show [] os = tt
     twos_show (x ∷ xs) os = All-append Shows (map (texts_of n x) (of_train x.train xs)) (twos n xs) (one-shows x os.0 xs os.1) (twos_show xs os.1)
@@ -83,7 +96,7 @@ module _ (H : List ℕ → List ℕ) (other : Other) where
     turn-shows (i ∷ is) n d line =
         let s = ready H other t r n d in
         cond_both (ltb n r) (on s) (out _) (λ lead. All Shows (texts_along H other (i ∷ is) lead line))
-        (λ _. All-append Shows (texts_at H other s line) _ (twos_show line n _ (all_open H other s good line))
+        (λ _. All-append Shows (texts_at H other s line) _ (twos_show s line _ (both _ _ _ (all_open H other s good line) (all_said H other s good line)))
         (by_round H other t r n d line i (λ g. All Shows (texts_along H other is g.to g.line)) (λ o l e. out-shows is o l) (λ e l a. turn-shows is (n + 1) e l)))
         (λ _. tt)
 

@@ -14,6 +14,7 @@ use Rattle.boxes.specs.Box.{Opening, text_of}
 use Rattle.boxes.specs.Binding.{collides, texts_of}
 use Rattle.paths.proofs.Same.{same_decides}
 use Rattle.boxes.proofs.Binds.{opened-same}
+use Rattle.words.specs.Said.{opened}
 use Rattle.words.specs.Writing.{is_got}
 use Rattle.round.specs.Line.{Event, Other}
 use Rattle.round.specs.Round.{part_of}
@@ -22,6 +23,7 @@ use Rattle.asking.specs.Asking.{Ready}
 use Rattle.round.specs.Contents.{Contents}
 use Rattle.round.proofs.Contents.{contents}
 use Rattle.soundness.specs.Texts.{says, answer, accepted, openings_of, openings, of_train, twos, texts_at}
+use Rattle.soundness.specs.Found.{SaidThere}
 use Rattle.soundness.specs.Knows.{number_of, plan_at}
 use Rattle.soundness.proofs.Runs.{accepts}
 use Rattle.soundness.proofs.Hits.{hit, hit_more, hit_append}
@@ -105,27 +107,27 @@ module _ (H : List ℕ → List ℕ) (other : Other) (s : Ready) (good : sound s
       (rising_in t.trains lowest t.pairs g.rises, omega (arith, g.some_pair), omega (arith, g.some_path))
 
   -- an accepted answer has two openings that content the asker
-  two : (i : ℕ) → accepts H other s line i ≡ true → (x y : Opening) × (accepted H other s line i ≡ (x ∷ y ∷ [])) × Contents H t s.round i ds x y
+  two : (i : ℕ) → accepts H other s line i ≡ true → (x y : Opening) × (answer other s line i ≡ got (opened s.round x y)) × (accepted H other s line i ≡ (x ∷ y ∷ [])) × Contents H t s.round i ds x y
   two i e =
       let c = contents H t good s.round i ds (says other s line i) (is_got_lem _ e) in
-      (c.0, c.1, ap (λ b. cond b (openings_of (answer other s line i)) []) e ∙ ap openings_of c.2, c.3)
+      (c.0, c.1, c.2, ap (λ b. cond b (openings_of (answer other s line i)) []) e ∙ ap openings_of c.2, c.3)
     where
       is_got_lem : (g : Got Looked) → is_got g ≡ true → g ≡ got tt
       is_got_lem (got u) e = refl
       is_got_lem (refused f) e = absurd (both_ways _ refl e)
 
   -- what holds of any two openings that content the asker holds of all that are accepted
-  of_accepted : (P : Opening → Type 0) (i : ℕ) → ((x y : Opening) → Contents H t s.round i ds x y → P x × P y) → All P (accepted H other s line i)
+  of_accepted : (P : Opening → Type 0) (i : ℕ) → ((x y : Opening) → answer other s line i ≡ got (opened s.round x y) → Contents H t s.round i ds x y → P x × P y) → All P (accepted H other s line i)
   of_accepted P i h =
       elim (cases_Bool (accepts H other s line i)) [
         | inl e ↦ (
             let c = two i e in
-            let p = h c.0 c.1 c.3 in
-            subst (All P) (sym c.2) (p.0, (p.1, tt)))
+            let p = h c.0 c.1 c.2 c.4 in
+            subst (All P) (sym c.3) (p.0, (p.1, tt)))
         | inr e ↦ subst (λ b. All P (cond b (openings_of (answer other s line i)) [])) (sym e) tt
       ]
 
-  of_all : (P : Opening → Type 0) (m : ℕ) → ((i : ℕ) → i < m → (x y : Opening) → Contents H t s.round i ds x y → P x × P y) → All P (openings H other s line m)
+  of_all : (P : Opening → Type 0) (m : ℕ) → ((i : ℕ) → i < m → (x y : Opening) → answer other s line i ≡ got (opened s.round x y) → Contents H t s.round i ds x y → P x × P y) → All P (openings H other s line m)
   unfolding openings
   of_all P zero h = tt
   of_all P (suc m) h = All-append P (openings H other s line m) (accepted H other s line m) (of_all P m (λ i l. h i (omega arith))) (of_accepted P m (h m (omega arith)))
@@ -140,7 +142,10 @@ module _ (H : List ℕ → List ℕ) (other : Other) (s : Ready) (good : sound s
   all = openings H other s line (length t.pairs)
 
   pub all_open : All (Opens H s.round ds) all
-  all_open = of_all (Opens H s.round ds) (length t.pairs) (λ i l x y k. ((few k.first (there i l).0, k.first_opens), (few k.second (there i l).1, k.second_opens)))
+  all_open = of_all (Opens H s.round ds) (length t.pairs) (λ i l x y a k. ((few k.first (there i l).0, k.first_opens), (few k.second (there i l).1, k.second_opens)))
+
+  pub all_said : All (SaidThere other s line) all
+  all_said = of_all (SaidThere other s line) (length t.pairs) (λ i l x y a k. ((i, x, y, a, inl refl), (i, x, y, a, inr refl)))
 
   -- what holds of all openings holds of those of one question
   of_one : (P : Opening → Type 0) (m : ℕ) → All P (openings H other s line m) → (i : ℕ) → i < m → All P (accepted H other s line i)
@@ -157,16 +162,16 @@ module _ (H : List ℕ → List ℕ) (other : Other) (s : Ready) (good : sound s
   plan = plan_at H other s line
 
   told_below : (j : ℕ) → told j < t.paths
-  told_below j = number_below t.paths j good_task.2 all (of_all (λ x. x.number < t.paths) (length t.pairs) (λ i l x y k. (k.first_there, k.second_there)))
+  told_below j = number_below t.paths j good_task.2 all (of_all (λ x. x.number < t.paths) (length t.pairs) (λ i l x y a k. (k.first_there, k.second_there)))
 
   module _ (e : hit H (texts_at H other s line) ≡ false) (h : (i : ℕ) → i < length t.pairs → accepts H other s line i ≡ true) where
     -- the two trains of each pair have the numbers that they were opened with
     differ : (i : ℕ) → i < length t.pairs → at plan (pair_at t i).a ≢ at plan (pair_at t i).e
     differ i l =
         let c = two i (h i l) in
-        let k = c.3 in
+        let k = c.4 in
         let agreed = agree H s.round ds all all_open e in
-        let said = subst (All (Tells all)) c.2 (of_one (Tells all) (length t.pairs) (tells all agreed) i l) in
+        let said = subst (All (Tells all)) c.3 (of_one (Tells all) (length t.pairs) (tells all agreed) i l) in
         let x = at_made told t.trains (pair_at t i).a (there i l).0 ∙ ap told (sym k.first) ∙ said.0 in
         let y = at_made told t.trains (pair_at t i).e (there i l).1 ∙ ap told (sym k.second) ∙ said.1.0 in
         rw (x, y) k.different
