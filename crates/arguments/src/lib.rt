@@ -1,7 +1,7 @@
 // The words of the command line, taken one option after the other.
 #![tactic(auto)]
 
-ghost use Rattle.std.specs.Prelude.{◌≡◌, false, drop};
+ghost use Rattle.std.specs.Prelude.{◌≡◌, false, drop, IfErr};
 ghost use Rattle.std.specs.Result.{result_ok};
 ghost use Rattle.arguments.specs.Words.{Stands, Taken, Struck, ending};
 
@@ -54,7 +54,8 @@ impl Arguments {
 
     // The same of an option that must be there.
     pub fn need(&mut self, name: &'static str) -> Result<String, Wrong>
-        ensures { Taken name.now self.old.words.items self.new.words.items (result_ok result) }
+        ensures taken { Taken name.now self.old.words.items self.new.words.items (result_ok result) }
+        ensures missing { IfErr result (λ wrong. wrong ≡ Wrong.Missing name.entry) }
     {
         self.take(name).ok_or(Wrong::Missing(name))
     }
