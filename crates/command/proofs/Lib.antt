@@ -1,3 +1,4 @@
 mod Plans
 mod Names
 mod Numbers
+mod Refusals

@@ -1,17 +1,30 @@
 // A file that is read as a program goes on, told by its name.
-ghost use Rattle.std.specs.Prelude.{◌≡◌, ◌+◌, IfOk, IfErr, vec_len};
+ghost use Rattle.std.specs.Prelude.{◌≡◌, ◌+◌, ◌++◌, take, IfOk, IfErr, OnOk, IfSome, vec_len};
 ghost use Rattle.std.specs.Io.{StartsWith};
-ghost use Rattle.command.specs.Files.{names, NamedBy, InFileOf};
+ghost use Rattle.std.specs.Io.Buffered.{reader_remaining};
+ghost use Rattle.command.specs.Files.{names, NamedBy, InFileOf, Unread, UnreadCopy};
 
-use super::problem::Problem;
+use super::files::open_file;
+use super::problem::{Problem, in_reading};
 use std::fs::File;
+use std::io;
 use std::io::{BufReader, Read};
 use tasks::Fault;
 
+// What is read is a file. A parameter, since of a file's bytes no contract knows, and of another reader's it does.
 #[derive(Drop)]
-pub struct Input {
-    pub file: BufReader<File>,
+pub struct Input<R: Read + Drop = File> {
+    pub file: BufReader<R>,
     pub name: String,
+}
+
+// Adds so many bytes of a reader, or fewer where it ends before, and answers how many.
+fn add_from<R: Read>(reader: &mut R, count: u64, bytes: &mut Vec<u8>) -> io::Result<usize>
+    ensures count { IfOk result (λ n. vec_len bytes.new ≡ vec_len bytes.old + n) }
+    ensures front { StartsWith bytes.new.items bytes.old.items }
+    ensures known { OnOk result (IfSome (R.remaining reader.old) (λ xs. bytes.new.items ≡ bytes.old.items ++ take count xs)) }
+{
+    reader.take(count).read_to_end(bytes)
 }
 
 impl Input {
@@ -19,23 +32,28 @@ impl Input {
     pub fn open(rt: &HostRuntime, name: String) -> Result<Input, Problem>
         ensures ok { IfOk result (λ input. input.name ≡ name) }
         ensures told { IfErr result (λ p. names p name) }
+        ensures unread { IfErr result (Unread name) }
     {
-        // The name goes into the error or on: a closure for `map_err` would take it.
-        let file = match File::open(rt, name.as_str()) {
-            Ok(file) => file,
-            Err(error) => return Err(Problem::File(name, error)),
-        };
+        let (file, name) = open_file(rt, name)?;
         let file = BufReader::new(rt.alloc(), file).map_err(|_| Problem::Memory)?;
         Ok(Input { file, name })
     }
+}
 
+impl<R: Read + Drop> Input<R> {
     // Adds so many bytes, or fewer where the file ends before, and answers how many.
     pub fn read(&mut self, count: u64, bytes: &mut Vec<u8>) -> Result<usize, Problem>
         ensures count { IfOk result (λ n. vec_len bytes.new ≡ vec_len bytes.old + n) }
         ensures front { StartsWith bytes.new.items bytes.old.items }
+        ensures known { OnOk result (IfSome (reader_remaining R.remaining self.old.file) (λ xs. bytes.new.items ≡ bytes.old.items ++ take count xs)) }
+        ensures name { self.new.name ≡ self.old.name }
+        ensures told { IfErr result (UnreadCopy self.old.name) }
     {
-        let size = self.file.by_ref().take(count).read_to_end(bytes);
-        size.map_err(|error| self.told(Problem::Stream(error)))
+        // A match: of what a closure for `map_err` gives, the check doesn't find that it tells the file.
+        match add_from(&mut self.file, count, bytes) {
+            Ok(size) => Ok(size),
+            Err(error) => Err(self.told(Problem::Stream(error))),
+        }
     }
 
     // A problem of a stream, told as one of this file.
@@ -46,7 +64,7 @@ impl Input {
             Problem::Stream(error) => self
                 .name
                 .clone()
-                .map_or(Problem::Memory, |name| Problem::File(name, error)),
+                .map_or(Problem::Memory, |name| in_reading(error, name)),
             other => other,
         }
     }

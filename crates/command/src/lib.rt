@@ -7,8 +7,8 @@ mod problem;
 mod program;
 mod rounds;
 
-pub use files::{Loaded, load_fitting_plan, load_task};
+pub use files::{Loaded, fitting_plan_from, load_fitting_plan, load_task, task_from};
 pub use input::Input;
 pub use problem::{Ending, Problem, conclude, finish};
-pub use program::{Program, Usage, exit_code, read_arguments, run};
+pub use program::{Program, Usage, exit_code, read_arguments, run, run_on};
 pub use rounds::read_rounds;

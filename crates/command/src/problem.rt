@@ -1,11 +1,14 @@
 // Why a program ends with status 1, and how that is told.
 ghost use Rattle.std.specs.Prelude.{◌≡◌, is_ok};
 ghost use Rattle.command.specs.Endings.{is_well};
+ghost use Rattle.command.specs.declared.problem.Problem.{Problem};
+ghost use Rattle.command.specs.Files.{names, but_memory, line_problem, InReading, Unread};
 
 use arguments::Wrong;
 use line::LineError;
 use std::alloc::{AllocError, AllocFailed};
 use std::io;
+use std::io::ErrorKind;
 use tasks::{Fault, Unfit};
 use thiserror::Error;
 
@@ -36,18 +39,24 @@ pub enum Problem {
 
 // These stand by hand: the last two choose the case, and `#[from(alloc)]` would put an AllocError into the case Memory, which holds nothing.
 impl From<AllocError> for Problem {
+    ghost from_gives = { λ _ p. p ≡ Problem.Memory };
+
     fn from(_error: AllocError) -> Problem {
         Problem::Memory
     }
 }
 
 impl<T: Drop> From<AllocFailed<T>> for Problem {
+    ghost from_gives = { λ _ p. p ≡ Problem.Memory };
+
     fn from(_refused: AllocFailed<T>) -> Problem {
         Problem::Memory
     }
 }
 
 impl From<LineError> for Problem {
+    ghost from_gives = { λ error p. p ≡ line_problem error };
+
     fn from(error: LineError) -> Problem {
         match error {
             LineError::Stream(error) => Problem::Stream(error),
@@ -57,12 +66,26 @@ impl From<LineError> for Problem {
 }
 
 impl From<Fault> for Problem {
+    ghost from_gives = { λ fault p. p ≡ but_memory fault (Problem.Fault fault) };
+
     fn from(fault: Fault) -> Problem {
         match fault {
             Fault::Memory => Problem::Memory,
             other => Problem::Fault(other),
         }
     }
+}
+
+// An error met in reading the file of this name. Want of memory is nobody's fault.
+pub fn in_reading(error: io::Error, name: String) -> Problem
+    ensures told { InReading error name result }
+    ensures unread { Unread name result }
+    ensures names { names result name }
+{
+    if error.kind() == ErrorKind::OutOfMemory {
+        return Problem::Memory;
+    }
+    Problem::File(name, error)
 }
 
 // Tells a problem on standard error, with the usage where an argument is wrong, and hands on that there was one, and no more, since it was told.
