@@ -5,11 +5,11 @@ ghost use Rattle.std.specs.Io.{StartsWith};
 ghost use Rattle.tasks.specs.Model.{task_of};
 ghost use Rattle.lots.specs.Lots.{lot_in, question_in};
 ghost use Rattle.lots.specs.Views.{EndOf};
+ghost use Rattle.command.specs.Files.{Unread};
 ghost use Rattle.keeping.specs.Drawn.{held, took, left_of, GoesOn, Takes, or_none, OneRow};
 
 use command::{Input, Problem};
 use lots::{Had, draw_lot, draw_question};
-use std::io::ErrorKind;
 use tasks::{Fault, Task};
 
 // What was read and not let go yet, and how much of it the last round took. The input is buffered, but its buffer has one size, and a round's bytes have to lie
@@ -33,6 +33,8 @@ impl Drawn {
     pub fn open(rt: &HostRuntime, name: String) -> Result<Drawn, Problem>
         ensures held { IfOk result (λ d. held d ≡ []) }
         ensures took { IfOk result (λ d. took d ≡ 0) }
+        ensures name { IfOk result (λ d. d.input.name ≡ name) }
+        ensures unread { IfErr result (Unread name) }
     {
         Ok(Drawn {
             input: Input::open(rt, name)?,
@@ -92,18 +94,13 @@ impl Drawn {
         Ok(())
     }
 
-    // Reads so many bytes more, or fewer where they end before. Want of memory is told as such.
+    // Reads so many bytes more, or fewer where they end before.
     fn read(&mut self, count: usize) -> Result<usize, Problem>
         ensures count { IfOk result (λ n. vec_len self.new.bytes ≡ vec_len self.old.bytes + n) }
         ensures front { StartsWith (held self.new) (held self.old) }
         ensures took { took self.new ≡ took self.old }
     {
-        match self.input.read(count as u64, &mut self.bytes) {
-            Err(Problem::File(_, error)) if error.kind() == ErrorKind::OutOfMemory => Err(
-                Problem::Memory,
-            ),
-            other => other,
-        }
+        self.input.read(count as u64, &mut self.bytes)
     }
 
     // The bytes that the last round took are gone.

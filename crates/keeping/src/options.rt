@@ -1,6 +1,6 @@
 // The options that both sides have.
-ghost use Rattle.std.specs.Prelude.{IfOk, codes};
-ghost use Rattle.keeping.specs.Options.{TakenFrom};
+ghost use Rattle.std.specs.Prelude.{IfOk, [], codes};
+ghost use Rattle.keeping.specs.Options.{TakenFrom, Each};
 
 use arguments::{Arguments, Wrong};
 
@@ -16,7 +16,8 @@ pub struct Options {
 impl Options {
     // After these options no word may be left.
     pub fn read(mut arguments: Arguments) -> Result<Options, Wrong>
-        ensures { IfOk result (λ options. TakenFrom (codes "--drawn") arguments.words.items options.drawn) }
+        ensures drawn { IfOk result (λ options. TakenFrom (codes "--drawn") arguments.words.items options.drawn) }
+        ensures all { IfOk result (λ options. Each arguments.words.items options []) }
     {
         let options = Options {
             drawn: arguments.need("--drawn")?,

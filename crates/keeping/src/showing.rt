@@ -3,6 +3,8 @@ ghost use Rattle.std.specs.Prelude.{◌≡◌, ℕ, ◌^◌, ◌≤◌, List, If
 ghost use Rattle.round.specs.Over.{outcome_of};
 ghost use Rattle.round.specs.declared.over.Over.{Over};
 ghost use Rattle.keeping.specs.Endings.{ending_of};
+ghost use Rattle.keeping.specs.Showing.{Opened};
+ghost use Rattle.keeping.specs.declared.showing.Stop.{Stop};
 
 use super::drawn::Drawn;
 use super::ending::tell;
@@ -28,7 +30,8 @@ pub struct Showing<'a> {
 impl<'a> Showing<'a> {
     // With as many rounds as the options say, or the default.
     pub fn open(rt: &'a HostRuntime, options: Options, default: u32) -> Result<Showing<'a>, Problem>
-        ensures { options.rounds ≡ None → default ≤ 2 ^ 24 → IfOk result (λ s. s.rounds.count ≡ default) }
+        ensures opened { IfOk result (Opened options default) }
+        ensures default { options.rounds ≡ None → default ≤ 2 ^ 24 → IfOk result (λ s. s.rounds.count ≡ default) }
     {
         let Options {
             drawn,
@@ -49,7 +52,11 @@ impl<'a> Showing<'a> {
     }
 
     // A round is closed, with this digest.
-    pub fn close_round(&mut self, round: u32, digest: [u8; 32]) -> Result<(), Problem> {
+    pub fn close_round(&mut self, round: u32, digest: [u8; 32]) -> Result<(), Problem>
+        ensures drawn { self.new.drawn ≡ self.old.drawn }
+        ensures words { self.new.records.words ≡ self.old.records.words }
+        ensures rounds { self.new.rounds ≡ self.old.rounds }
+    {
         self.records.digest(round, digest)?;
         self.progress.done(self.rt, round.saturating_add(1));
         Ok(())
@@ -73,12 +80,16 @@ pub enum Stop {
 }
 
 impl From<Over> for Stop {
+    ghost from_gives = { λ over stop. stop ≡ Stop.Over over };
+
     fn from(over: Over) -> Stop {
         Stop::Over(over)
     }
 }
 
 impl From<Problem> for Stop {
+    ghost from_gives = { λ problem stop. stop ≡ Stop.Problem problem };
+
     fn from(problem: Problem) -> Stop {
         Stop::Problem(problem)
     }
