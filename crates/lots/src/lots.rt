@@ -1,5 +1,6 @@
 // The planner's lot of a round.
 ghost use Rattle.std.specs.Prelude.{◌≡◌, ◌*◌, length, IfOk};
+ghost use Rattle.drawing.specs.Uniform.{EvenOrders, EvenShowings};
 ghost use Rattle.tasks.specs.Model.{task_of};
 ghost use Rattle.tasks.specs.Reading.{gives};
 ghost use Rattle.lots.specs.Lots.{chances_in, lot_in};
@@ -36,7 +37,7 @@ fn chances_in(trains: u16, order: Order, bytes: &[u8]) -> Result<Had<'_, Lot<'_>
 }
 
 // The lot of a round, or fault 11 where the bytes are too few for the order, with all values that are passed over, and for every chance. Lots are, as coins,
-// what the promises of uniformity speak of, round by round.
+// what the promises of uniformity speak of, round by round: each order, and each row of coins of a showing, comes from equally many rows of values.
 #[tactic(auto, using(crate::proofs::Told::lot_laws))]
 pub fn draw_lot<'a>(task: &Task, bytes: &'a [u8]) -> Result<Had<'a, Lot<'a>>, Fault>
     ensures lot { gives (had_of lot_of) result ≡ lot_in (task_of task.now) bytes.now }
@@ -44,6 +45,8 @@ pub fn draw_lot<'a>(task: &Task, bytes: &'a [u8]) -> Result<Had<'a, Lot<'a>>, Fa
     ensures left { IfOk result (λ h. EndOf bytes.now h.left.now) }
     ensures coins { LotsAreCoins }
     ensures in_turn { LotsInTurn }
+    ensures orders { EvenOrders }
+    ensures showings { EvenShowings }
     ensures had { LotsHad }
     ensures follows { Follows (lot_in (task_of task.now)) }
 {

@@ -7,6 +7,7 @@ ghost use Rattle.asking.specs.Model.{awaiting_of};
 ghost use Rattle.round.specs.Line.{Other};
 ghost use Rattle.soundness.specs.Found.{FoundBoxes};
 ghost use Rattle.soundness.specs.Knows.{KnowsAlong, KnowsAlongDrawn, KnowsEnough, OneEach};
+ghost use Rattle.soundness.specs.Questioned.{RunsOn};
 ghost use Rattle.soundness.specs.Texts.{PutsFew};
 ghost use Rattle.soundness.specs.Sound.{SoundAlong, Sound, SoundAlongDrawn, SoundDrawn, SoundAlongEnough, SoundEnough};
 ghost use Rattle.joined.specs.Joined.{Joins};
@@ -27,6 +28,7 @@ use tasks::{Rounds, Task};
 pub fn start_asker(heap: Global, task: Task, rounds: Rounds) -> Result<Awaiting, AllocError>
     ensures state { IfOk result (λ s. awaiting_of s ≡ record { task = task_of task; rounds = rounds.count }) }
     ensures conduct { (hash : List ℕ → List ℕ) → Conduct hash (task_of task) rounds.count }
+    ensures runs_on { RunsOn }
     ensures along { SoundAlong }
     ensures sound { Sound }
     ensures along_drawn { SoundAlongDrawn }

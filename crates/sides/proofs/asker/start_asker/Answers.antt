@@ -2,6 +2,7 @@ use Rattle.sha256.specs.Sha256.{sha256}
 use Rattle.soundness.proofs.Bounds.{knows_along, one_each, sound-along, sound-whole}
 use Rattle.soundness.proofs.Few.{puts_few}
 use Rattle.soundness.proofs.Found.{found_boxes}
+use Rattle.soundness.proofs.Runs.{runs_on}
 use Rattle.soundness.proofs.Shares.{knows-along-drawn, knows-enough, sound-along-drawn, sound-drawn, sound-along-enough, sound-enough}
 use Rattle.joined.proofs.Cases.{all-cases, all_faults}
 use Rattle.joined.proofs.Joins.{joins}
@@ -15,6 +16,7 @@ returns c =
     record {
       state = c.start.ensures.state;
       conduct = c.start.ensures.conduct;
+      runs_on = runs_on;
       along = sound-along;
       sound = sound-whole;
       along_drawn = sound-along-drawn;

@@ -1,6 +1,8 @@
 use Rattle.sha256.specs.Sha256.{sha256}
 use Rattle.boxes.proofs.Digests.{length-sha256}
 use Rattle.secrecy.proofs.All.{secret}
+use Rattle.secrecy.proofs.ByLots.{by_lots-all}
+use Rattle.secrecy.proofs.Misses.{glass-shows}
 use Rattle.joined.proofs.Answered.{completes}
 use Rattle.joined.proofs.Cases.{all-cases, all_faults}
 use Rattle.joined.proofs.Joins.{joins}
@@ -14,9 +16,11 @@ returns c =
     record {
       answer = c.start.ensures.answer;
       conduct = c.start.ensures.conduct;
-      secrecy = c.start.ensures.secrecy;
+      this_plan = c.start.ensures.secrecy;
       simulated = c.start.ensures.simulated;
-      hidden = secret sha256 length-sha256;
+      secrecy = secret sha256 length-sha256;
+      by_lots = by_lots-all;
+      glass = glass-shows;
       complete = completes;
       joined = joins;
       runs = sides_run sha256;
