@@ -11,7 +11,8 @@ use super::word::Word;
 use boxes::Opening;
 use tasks::Kind;
 
-// Bytes put to the front: a function, since what is written through a free end that is not lent to one is not known.
+// Puts bytes to the front of memory, whose rest stays as it is. A function, so that `put_both` can lend it the free end: what is written through a free end that is
+// lent to no function, as by `let free = &mut out[n..]`, is not known.
 fn put(bytes: &[u8], out: &mut [u8])
     requires { length bytes.now ≤ length out.old }
     ensures { out.new ≡ bytes.now ++ drop (length bytes.now) out.old }
