@@ -1,10 +1,12 @@
 // One word read from a stream, and no byte of the next.
-ghost use Rattle.std.specs.Prelude.{◌≡◌, ◌≢◌, ◌<◌, ◌≤◌, ◌++◌, length, take, vec_len, IfErr, IfOk, IfSome, MatchResult, OnOk, OnSome};
+ghost use Rattle.std.specs.Prelude.{◌≡◌, ◌≢◌, ◌<◌, ◌≤◌, ◌++◌, length, take, vec_len, Ok, IfErr, IfOk, IfSome, MatchResult, OnOk, OnSome};
 ghost use Rattle.std.specs.ControlFlow.{IsContinueAnd, ForBreak};
+ghost use Rattle.std.specs.declared.ops.ControlFlow.TheVariants.{Break};
 ghost use Rattle.std.specs.Io.KnownBytes.{Consumes, IsAtEnd};
 ghost use Rattle.std.specs.IoError.{error_kind};
 ghost use Rattle.std.specs.declared.io.ErrorKind.TheVariants.{Interrupted};
 ghost use Rattle.tasks.specs.Model.{task_of};
+ghost use Rattle.words.specs.Stops.{next_stop};
 ghost use Rattle.line.specs.declared.error.LineError.TheVariants.{Stream};
 ghost use Rattle.line.specs.Wanted.{Wanted, OneWord, Ended, ExactWord, Taken};
 
@@ -82,6 +84,7 @@ fn one_turn<R: BufRead>(
     ensures taken { Taken (R.remaining reader.old) (R.remaining reader.new) word.old.items word.new.items }
     ensures whole { IfOk result (λ go. ForBreak go (λ _. OnSome (R.remaining reader.old)
         (Ended (task_of task.now) word.new.items (R.remaining reader.new)))) }
+    ensures over { next_stop (task_of task.now) word.old.items ≤ vec_len word.old → result ≡ Ok (Break tt) }
 {
     let stop = next_stop(task, word.as_slice());
     if stop <= word.len() {

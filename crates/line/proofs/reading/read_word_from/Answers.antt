@@ -20,3 +20,9 @@ returns-then-is_break-clause-few g c = few_of c.args.task.now c.one_turn.new.wor
 
 pub returns-clause-few : goal.returns-clause-few
 returns-clause-few g c = few_of c.args.task.now c.loop.word c.loop.invariant.wanted
+
+pub returns-in_err-one_turn-clause-few : goal.returns-in_err-one_turn-clause-few
+returns-in_err-one_turn-clause-few g c = few_of c.args.task.now c.one_turn.new.word c.one_turn.ensures.wanted
+
+pub loop-preserved : goal.loop-preserved
+loop-preserved g c = record { wanted = c.one_turn.ensures.wanted; taken = taken_more _ _ _ _ _ c.loop.invariant.taken c.one_turn.ensures.taken }
