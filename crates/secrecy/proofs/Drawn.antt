@@ -10,10 +10,10 @@ use Rattle.tasks.specs.Reading.{Got, got, refused}
 use Rattle.lots.specs.Lots.{Had, Lot, lot_in, in_turn, each_as}
 use Rattle.round.specs.Line.{Other}
 use Rattle.planning.specs.Run.{showing}
-use Rattle.secrecy.specs.Hidden.{unaware, Hidden, hidden}
+use Rattle.secrecy.specs.View.{unaware, View, view_of}
 use Rattle.secrecy.specs.Lots.{Lots, and_lots, lots_in, show_lots, pair_lot}
-use Rattle.secrecy.specs.Secret.{paired, Secret}
-use Rattle.secrecy.specs.Drawn.{paired_bytes, SecretDrawn, KeepsSecretDrawn}
+use Rattle.secrecy.specs.Secret.{paired, SameByLots}
+use Rattle.secrecy.specs.Drawn.{paired_bytes, SameByBytes, SecretByBytes}
 use Rattle.secrecy.proofs.ByLots.{by_lots-all}
 use Rattle.secrecy.proofs.Secret.{keeps_secret}
 use Rattle.secrecy.proofs.Aiming.{aimed_quotient}
@@ -96,7 +96,7 @@ module _ (t : Task) (few : t.paths ≤ 2 ^ 32) (r : ℕ) where
       bytes_of bs k = and_r (eqb (length bs) many) _ k
 
 module _ (H : List ℕ → List ℕ) (size : (x : List ℕ) → length (H x) ≡ 32) (t : Task) (good : Good t) (few : t.paths ≤ 2 ^ 32) (f : Other) (r : ℕ) where
-  abbrev secret : (p q : Plan) → T (fits t p) → T (fits t q) → Secret H t p q f r
+  abbrev secret : (p q : Plan) → T (fits t p) → T (fits t q) → SameByLots H t p q f r
   secret p q fp fq = keeps_secret H size t good p q fp fq f r
 
   pub paired-reorders : (p q : Plan) → T (fits t p) → T (fits t q) → Reorders t (paired H f t p q r) (paired H f t q p r)
@@ -104,7 +104,7 @@ module _ (H : List ℕ → List ℕ) (size : (x : List ℕ) → length (H x) ≡
       let s = secret p q fp fq in
       record { fitting = s.fitting; as_many = s.as_many; orders_alone = λ ls. reorder_by (pair_lot t p q) (λ i l. refl) _ ls; undo = s.back_there }
 
-  pub secret_drawn : (p q : Plan) → T (fits t p) → T (fits t q) → (bs : List ℕ) → T (all_below 256 bs) → SecretDrawn H t p q f r bs
+  pub secret_drawn : (p q : Plan) → T (fits t p) → T (fits t q) → (bs : List ℕ) → T (all_below 256 bs) → SameByBytes H t p q f r bs
   secret_drawn p q fp fq bs b =
       let u = paired-reorders p q fp fq in
       let v = paired-reorders q p fq fp in
@@ -123,17 +123,17 @@ module _ (H : List ℕ → List ℕ) (size : (x : List ℕ) → length (H x) ≡
         quotients = λ os k. lots-first t _ aimed_quotient _ os o (m ∙ sym k) bs;
         back_there = bytes-back t few r _ _ u bs b;
         there_back = bytes-back t few r _ _ v bs b;
-        same = ap hidden x ∙ (s.same (lots_in t r bs) ∙ ap hidden (sym y));
+        same = ap view_of x ∙ (s.same (lots_in t r bs) ∙ ap view_of (sym y));
         twins = rw (x, y, l) (s.twins (lots_in t r bs));
       }
 
-pub keeps_secret_drawn : (H : List ℕ → List ℕ) → ((x : List ℕ) → length (H x) ≡ 32) → KeepsSecretDrawn H
+pub keeps_secret_drawn : (H : List ℕ → List ℕ) → ((x : List ℕ) → length (H x) ≡ 32) → SecretByBytes H
 keeps_secret_drawn H size t good few p q fp fq f r = record { drawn = there; as_often = often }
   where
-    there : (bs : List ℕ) → T (all_below 256 bs) → SecretDrawn H t p q f r bs
+    there : (bs : List ℕ) → T (all_below 256 bs) → SameByBytes H t p q f r bs
     there = secret_drawn H size t good few f r p q fp fq
 
-    often : (test : Hidden → Bool) (many : ℕ) → count (λ bs. test (hidden (showing H (unaware f) t p r bs))) (asks 256 many) ≡ count (λ bs. test (hidden (showing H (unaware f) t q r bs))) (asks 256 many)
+    often : (test : View → Bool) (many : ℕ) → count (λ bs. test (view_of (showing H (unaware f) t p r bs))) (asks 256 many) ≡ count (λ bs. test (view_of (showing H (unaware f) t q r bs))) (asks 256 many)
     often test many =
-        often_by t few r _ _ (paired-reorders H size t good few f r p q fp fq) (paired-reorders H size t good few f r q p fq fp) many _ (λ bs. test (hidden (showing H (unaware f) t q r bs)))
+        often_by t few r _ _ (paired-reorders H size t good few f r p q fp fq) (paired-reorders H size t good few f r q p fq fp) many _ (λ bs. test (view_of (showing H (unaware f) t q r bs)))
         (λ bs b. ap test (there bs b).same)

@@ -4,9 +4,9 @@ use Rattle.paths.specs.Plan.{Task, Good, Plan, fits}
 use Rattle.paths.proofs.Paired.{fits-parts}
 use Rattle.lots.specs.Lots.{Lot}
 use Rattle.round.specs.Line.{Other}
-use Rattle.secrecy.specs.Hidden.{unaware}
+use Rattle.secrecy.specs.View.{unaware}
 use Rattle.secrecy.specs.Lots.{Lots, show_lots, asked, pair_lot}
-use Rattle.secrecy.specs.Secret.{paired, Secret, KeepsSecret}
+use Rattle.secrecy.specs.Secret.{paired, SameByLots, SecretByLots}
 use Rattle.secrecy.specs.Twins.{begun}
 use Rattle.secrecy.proofs.Pairs.{by-long, by_fits, by-back, lots-undone}
 use Rattle.secrecy.proofs.Twins.{twins-hidden, Same, two-turn, goes}
@@ -19,7 +19,7 @@ module _ (H : List ℕ → List ℕ) (size : (x : List ℕ) → length (H x) ≡
   back : (p q : Plan) (fp : T (fits t p)) (fq : T (fits t q)) (ls : List Lot) → Lots t ls → paired H f t q p r (paired H f t p q r ls) ≡ ls
   back p q fp fq ls h = let w = whole p q fp fq ls in rw w.asked (by-back t _ _ (lots-undone t good p q fp fq) _ w.below ls h)
 
-  secret : (p q : Plan) → T (fits t p) → T (fits t q) → Secret H t p q f r
+  secret : (p q : Plan) → T (fits t p) → T (fits t q) → SameByLots H t p q f r
   secret p q fp fq =
       record {
         questions = λ ls. (whole p q fp fq ls).below;
@@ -31,5 +31,5 @@ module _ (H : List ℕ → List ℕ) (size : (x : List ℕ) → length (H x) ≡
         twins = λ ls. let w = whole p q fp fq ls in (w.rounds, w.twins);
       }
 
-pub keeps_secret : (H : List ℕ → List ℕ) → ((x : List ℕ) → length (H x) ≡ 32) → KeepsSecret H
+pub keeps_secret : (H : List ℕ → List ℕ) → ((x : List ℕ) → length (H x) ≡ 32) → SecretByLots H
 keeps_secret H size t good p q fp fq f r = secret H size t good f r p q fp fq

@@ -20,7 +20,7 @@ use Rattle.round.specs.Line.{Event, sent, heard, Other}
 use Rattle.round.specs.Over.{Over, Leads, on, out, content, not_content, fault}
 use Rattle.planning.specs.Planning.{Ready, turn, ask_in, end_in, hear, settle}
 use Rattle.planning.specs.Run.{and_on}
-use Rattle.secrecy.specs.Hidden.{hide, unaware, hidden}
+use Rattle.secrecy.specs.View.{hide, unaware, view_of}
 use Rattle.secrecy.specs.Lots.{close_lot, run_lots, asked_lots, show_lots, lots_in, asked, pair_lot}
 use Rattle.secrecy.specs.Simulated.{Told, ends, by_end, telling, opened_anyhow, simulation, simulated, to_simulated, from_simulated, Simulates}
 use Rattle.secrecy.proofs.ByLots.{lots-out, opened_by, by_lots-all}
@@ -49,7 +49,7 @@ module _ (H : List ℕ → List ℕ) (size : (x : List ℕ) → length (H x) ≡
   abbrev Tells : ℕ → ℕ → Leads Ready → List Lot → List Event → List Event → Type 0
   Tells left n a ls line hl =
       let x = telling (planned t p) f t left n ls hl in
-      (hidden (run_lots H other left a ls line) ≡ x.seen) × (asked_lots H other left a ls line ≡ x.asked)
+      (view_of (run_lots H other left a ls line) ≡ x.seen) × (asked_lots H other left a ls line ≡ x.asked)
 
   head-of : (n : ℕ) (l : Lot) → hide (sent (said_bytes (boxes_for H n p l))) ≡ sent (boxes_head n t.trains)
   head-of n l =
@@ -84,7 +84,7 @@ module _ (H : List ℕ → List ℕ) (size : (x : List ℕ) → length (H x) ≡
         let v = f (shown i) in
         let a = and_on (hear (opened_by (close_lot H (state n d) l) w i) v) (settle H) in
         let x = by_end g n (heard v ∷ shown i) (telling (planned t p) f t left (n + 1) ls (heard v ∷ shown i)) in
-        (hidden (run_lots H other left a ls (heard v ∷ second i)) ≡ x.seen) × (asked_lots H other left a ls (heard v ∷ second i) ≡ x.asked)
+        (view_of (run_lots H other left a ls (heard v ∷ second i)) ≡ x.seen) × (asked_lots H other left a ls (heard v ∷ second i) ≡ x.asked)
     by-end more k i (got true) h = rw h (more (n + 1) (omega arith) _ ls _ _ (ap (λ xs. heard (f (shown i)) ∷ xs) (second-hidden i)))
     by-end more k i (got false) h =
         rw (h, lots-out H other left _ ls _, asked_out H other left _ ls _) (let a = second-hidden i in λ j. record { line = heard (f (shown i)) ∷ a j; outcome = not_content n }, refl)
@@ -167,7 +167,7 @@ module _ (H : List ℕ → List ℕ) (size : (x : List ℕ) → length (H x) ≡
   abbrev run_told : List Lot → Told
   run_told ls = telling (planned t p) f t r 0 ls (sent (task_bytes t) ∷ [])
 
-  run-tells : (ls : List Lot) → (hidden (show_lots H (unaware f) t p r ls) ≡ (run_told ls).seen) × (asked H (unaware f) t p r ls ≡ (run_told ls).asked)
+  run-tells : (ls : List Lot) → (view_of (show_lots H (unaware f) t p r ls) ≡ (run_told ls).seen) × (asked H (unaware f) t p r ls ≡ (run_told ls).asked)
   run-tells ls = tells H size t p (fits-parts t p fp).0 r f r 0 (omega arith) _ ls _ _ refl
 
   abbrev there : ℕ → Lot → Lot
@@ -229,7 +229,7 @@ module _ (H : List ℕ → List ℕ) (size : (x : List ℕ) → length (H x) ≡
     undo = λ ls h. rw ((run-tells (from_simulated f t p r ls)).1 ∙ (goes-back ls).asked) (by-back t back there undone-back _ (goes-back ls).below ls h);
   }
 
-  pub same-there : (ls : List Lot) → hidden (show_lots H (unaware f) t p r ls) ≡ simulated f t r (to_simulated H f t p r ls)
+  pub same-there : (ls : List Lot) → view_of (show_lots H (unaware f) t p r ls) ≡ simulated f t r (to_simulated H f t p r ls)
   same-there ls = (run-tells ls).0 ∙ sym (goes-there ls).seen
 
 pub simulates : (H : List ℕ → List ℕ) → ((x : List ℕ) → length (H x) ≡ 32) → Simulates H
@@ -241,7 +241,7 @@ simulates H size t good few p fp f r = record {
   back_there = u.undo;
   there_back = v.undo;
   as_often = λ test many. often_by t few r _ _ u v many _ (λ bs. test (simulated f t r (lots_in t r bs))) (λ bs b.
-      ap test (ap hidden ((by_lots-all t r bs).run H (unaware f) p) ∙ (same (lots_in t r bs) ∙ ap (simulated f t r) (sym (lots-by t few r _ _ u bs b)))));
+      ap test (ap view_of ((by_lots-all t r bs).run H (unaware f) p) ∙ (same (lots_in t r bs) ∙ ap (simulated f t r) (sym (lots-by t few r _ _ u bs b)))));
 }
   where
     u : Reorders t (to_simulated H f t p r) (from_simulated f t p r)
@@ -250,5 +250,5 @@ simulates H size t good few p fp f r = record {
     v : Reorders t (from_simulated f t p r) (to_simulated H f t p r)
     v = reorders-back H size t good p fp f r
 
-    same : (ls : List Lot) → hidden (show_lots H (unaware f) t p r ls) ≡ simulated f t r (to_simulated H f t p r ls)
+    same : (ls : List Lot) → view_of (show_lots H (unaware f) t p r ls) ≡ simulated f t r (to_simulated H f t p r ls)
     same = same-there H size t good p fp f r

@@ -25,7 +25,7 @@ use Rattle.round.specs.Line.{Event, sent, heard, Other, Ran}
 use Rattle.round.specs.Over.{Over, Leads, on, out}
 use Rattle.planning.specs.Planning.{Ready, Closed, stops, turn, on_ask, ask_in, end_in, hear, settle}
 use Rattle.planning.specs.Run.{and_on}
-use Rattle.secrecy.specs.Hidden.{hide}
+use Rattle.secrecy.specs.View.{hide}
 use Rattle.secrecy.specs.Lots.{close_lot, run_lots, asked_lots, pair_lot, pair_lots}
 use Rattle.secrecy.specs.Twins.{Digests, OnlyNumbers, Twins, begun, told, closed, opened}
 use Rattle.secrecy.proofs.ByLots.{lots-out, opened_by}

@@ -9,7 +9,7 @@ use Rattle.lots.specs.Views.{value_at}
 use Rattle.words.specs.Writing.{long_bytes}
 use Rattle.round.specs.Line.{Other}
 use Rattle.planning.specs.Run.{showing}
-use Rattle.secrecy.specs.Hidden.{unaware, Hidden, hidden}
+use Rattle.secrecy.specs.View.{unaware, View, view_of}
 use Rattle.secrecy.specs.Lots.{lots_in}
 use Rattle.secrecy.specs.Secret.{paired}
 use Rattle.secrecy.specs.Twins.{TwinRuns}
@@ -50,10 +50,10 @@ rewrite_lots pen t (o ∷ os) bs =
 abbrev pub paired_bytes : (List ℕ → List ℕ) → Other → Task → Plan → Plan → ℕ → List ℕ → List ℕ
 paired_bytes H f t p q r bs = rewrite_lots aimed t (map (λ l. l.order) (paired H f t p q r (lots_in t r bs))) bs
 
--- The showings of plan p with drawn bytes, and of plan q with the bytes that go with them: an asker sees the same, fault 11 too. The bytes are as many, and give the
+-- The showings of plan p with drawn bytes, and of plan q with the bytes that go with them: an asker that is unaware of digests sees the same, fault 11 too. The bytes are as many, and give the
 -- lots that go together, with the same bytes left over. Nothing but remainders of values used for orders differs: with these values blank the bytes are the
 -- same, each in its place; and aimed at any orders they are the same. The bytes are paired off one to one, none left out.
-pub record SecretDrawn (H : List ℕ → List ℕ) (t : Task) (p q : Plan) (f : Other) (r : ℕ) (bs : List ℕ) : Type 0 where
+pub record SameByBytes (H : List ℕ → List ℕ) (t : Task) (p q : Plan) (f : Other) (r : ℕ) (bs : List ℕ) : Type 0 where
   pub as_many : length (paired_bytes H f t p q r bs) ≡ length bs
   pub bytes : T (all_below 256 (paired_bytes H f t p q r bs))
   pub lots : lots_in t r (paired_bytes H f t p q r bs) ≡ paired H f t p q r (lots_in t r bs)
@@ -62,19 +62,19 @@ pub record SecretDrawn (H : List ℕ → List ℕ) (t : Task) (p q : Plan) (f : 
   pub quotients : (os : List (List ℕ)) → length os ≡ length (lots_in t r bs) → rewrite_lots aimed t os (paired_bytes H f t p q r bs) ≡ rewrite_lots aimed t os bs
   pub back_there : paired_bytes H f t q p r (paired_bytes H f t p q r bs) ≡ bs
   pub there_back : paired_bytes H f t p q r (paired_bytes H f t q p r bs) ≡ bs
-  pub same : hidden (showing H (unaware f) t p r bs) ≡ hidden (showing H (unaware f) t q r (paired_bytes H f t p q r bs))
+  pub same : view_of (showing H (unaware f) t p r bs) ≡ view_of (showing H (unaware f) t q r (paired_bytes H f t p q r bs))
   pub twins :
       let cs = paired_bytes H f t p q r bs in
       TwinRuns H t p q (lots_in t r bs) (lots_in t r cs) (showing H (unaware f) t p r bs) (showing H (unaware f) t q r cs)
 
 -- So it is for all drawn bytes; and whatever is tested of what an asker sees, it passes for as many rows of drawn bytes with the one plan as with the other.
-pub record SecretRuns (H : List ℕ → List ℕ) (t : Task) (p q : Plan) (f : Other) (r : ℕ) : Type 0 where
-  pub drawn : (bs : List ℕ) → T (all_below 256 bs) → SecretDrawn H t p q f r bs
-  pub as_often : (test : Hidden → Bool) (many : ℕ) →
-      count (λ bs. test (hidden (showing H (unaware f) t p r bs))) (asks 256 many) ≡ count (λ bs. test (hidden (showing H (unaware f) t q r bs))) (asks 256 many)
+pub record SameRuns (H : List ℕ → List ℕ) (t : Task) (p q : Plan) (f : Other) (r : ℕ) : Type 0 where
+  pub drawn : (bs : List ℕ) → T (all_below 256 bs) → SameByBytes H t p q f r bs
+  pub as_often : (test : View → Bool) (many : ℕ) →
+      count (λ bs. test (view_of (showing H (unaware f) t p r bs))) (asks 256 many) ≡ count (λ bs. test (view_of (showing H (unaware f) t q r bs))) (asks 256 many)
 
-abbrev pub KeepsSecretDrawn : (List ℕ → List ℕ) → Type 0
-KeepsSecretDrawn H = (t : Task) → Good t → t.paths ≤ 2 ^ 32 → (p q : Plan) → T (fits t p) → T (fits t q) → (f : Other) (r : ℕ) → SecretRuns H t p q f r
+abbrev pub SecretByBytes : (List ℕ → List ℕ) → Type 0
+SecretByBytes H = (t : Task) → Good t → t.paths ≤ 2 ^ 32 → (p q : Plan) → T (fits t p) → T (fits t q) → (f : Other) (r : ℕ) → SameRuns H t p q f r
 
 -- Bytes written anew so are their values, aimed.
 abbrev pub AimsValues : Type 0

@@ -1,4 +1,4 @@
-pub mod Hidden
+pub mod View
 pub mod Lots
 pub mod Twins
 pub mod Secret

@@ -11,8 +11,8 @@ abbrev pub glass : List ℕ → List ℕ
 glass x = take 32 (drop 6 x ++ replicate 32 0)
 
 -- three trains, of which the first two may not share one of two paths; and two plans, in which the third shares the path of the first, or of the second
-abbrev pub trio : Task
-trio = record { trains = 3; paths = 2; pairs = record { a = 0; e = 1 } ∷ [] }
+abbrev pub one_apart : Task
+one_apart = record { trains = 3; paths = 2; pairs = record { a = 0; e = 1 } ∷ [] }
 
 abbrev pub with_first : Plan
 with_first = 0 ∷ 1 ∷ 0 ∷ []
@@ -24,6 +24,6 @@ with_second = 0 ∷ 1 ∷ 1 ∷ []
 -- SHA-256 gives 32 bytes is not enough for an asker that does.
 pub record GlassShows : Type 0 where
   pub size : (x : List ℕ) → length (glass x) ≡ 32
-  pub first_fits : T (fits trio with_first)
-  pub second_fits : T (fits trio with_second)
-  pub never : (n : ℕ) (l m : Lot) → IsLot trio l → IsLot trio m → said_bytes (boxes_for glass n with_first l) ≢ said_bytes (boxes_for glass n with_second m)
+  pub first_fits : T (fits one_apart with_first)
+  pub second_fits : T (fits one_apart with_second)
+  pub never : (n : ℕ) (l m : Lot) → IsLot one_apart l → IsLot one_apart m → said_bytes (boxes_for glass n with_first l) ≢ said_bytes (boxes_for glass n with_second m)

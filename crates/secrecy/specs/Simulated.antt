@@ -1,4 +1,4 @@
--- What an asker sees, told without a plan and without boxes: a function of the task, the asker and the lots alone. Only the lots that go with those of a run are
+-- What an asker that is unaware of digests sees, told without a plan and without boxes: a function of the task, the asker and the lots alone. Only the lots that go with those of a run are
 -- told by its plan. H is any function in the place of SHA-256. Assumes nothing.
 use Rattle.std.specs.Prelude.{◌≡◌, ℕ, zero, suc, ◌+◌, ◌^◌, ◌≤◌, Bool, true, false, T, List, [], ◌∷◌, length}
 use Rattle.paths.specs.Plan.{Task, Good, Plan, at, fits}
@@ -16,12 +16,12 @@ use Rattle.round.specs.Over.{Outcome, content, not_content, fault}
 use Rattle.round.specs.Round.{part_of}
 use Rattle.planning.specs.Planning.{ask_in, end_in}
 use Rattle.planning.specs.Run.{showing}
-use Rattle.secrecy.specs.Hidden.{unaware, Hidden, hidden}
+use Rattle.secrecy.specs.View.{unaware, View, view_of}
 use Rattle.secrecy.specs.Lots.{show_lots, lots_in, asked, Lots, pair_lot}
 
 -- what is told: all that the asker sees, and which pairs it asked for
 pub record Told : Type 0 where
-  pub seen : Hidden
+  pub seen : View
   pub asked : List ℕ
 
 abbrev pub ends : Outcome → List Event → Told
@@ -61,7 +61,7 @@ abbrev pub simulation : Other → Task → ℕ → List Lot → Told
 simulation f t r ls = telling (opened_anyhow t) f t r 0 ls (sent (task_bytes t) ∷ [])
 
 -- all that the asker sees so, of a showing in r rounds
-abbrev pub simulated : Other → Task → ℕ → List Lot → Hidden
+abbrev pub simulated : Other → Task → ℕ → List Lot → View
 simulated f t r ls = (simulation f t r ls).seen
 
 -- the lots of the simulation that go with lots for plan p, and the other way round: each as if the other plan were that of its question
@@ -74,19 +74,19 @@ from_simulated f t p r ls = by_question (λ i. pair_lot t (pretend t i) p i) (si
 -- What an asker that doesn't look into the digests sees of plan p is what is told without a plan, with lots paired off one to one; and whatever is tested of it, it passes
 -- for as many rows of drawn bytes as what is told without a plan
 pub record SimulatedRuns (H : List ℕ → List ℕ) (t : Task) (p : Plan) (f : Other) (r : ℕ) : Type 0 where
-  pub same : (ls : List Lot) → hidden (show_lots H (unaware f) t p r ls) ≡ simulated f t r (to_simulated H f t p r ls)
+  pub same : (ls : List Lot) → view_of (show_lots H (unaware f) t p r ls) ≡ simulated f t r (to_simulated H f t p r ls)
   pub there_fits : (ls : List Lot) → Lots t ls → Lots t (to_simulated H f t p r ls)
   pub back_fits : (ls : List Lot) → Lots t ls → Lots t (from_simulated f t p r ls)
   pub as_many : (ls : List Lot) → length (to_simulated H f t p r ls) ≡ length ls
   pub back_there : (ls : List Lot) → Lots t ls → from_simulated f t p r (to_simulated H f t p r ls) ≡ ls
   pub there_back : (ls : List Lot) → Lots t ls → to_simulated H f t p r (from_simulated f t p r ls) ≡ ls
-  pub as_often : (test : Hidden → Bool) (many : ℕ) →
-      count (λ bs. test (hidden (showing H (unaware f) t p r bs))) (asks 256 many) ≡ count (λ bs. test (simulated f t r (lots_in t r bs))) (asks 256 many)
+  pub as_often : (test : View → Bool) (many : ℕ) →
+      count (λ bs. test (view_of (showing H (unaware f) t p r bs))) (asks 256 many) ≡ count (λ bs. test (simulated f t r (lots_in t r bs))) (asks 256 many)
 
 -- So it is of any plan that fits.
 abbrev pub Simulates : (List ℕ → List ℕ) → Type 0
 Simulates H = (t : Task) → Good t → t.paths ≤ 2 ^ 32 → (p : Plan) → T (fits t p) → (f : Other) (r : ℕ) → SimulatedRuns H t p f r
 
--- A showing of plan p in r rounds shows any asker what is told without a plan.
+-- A showing of plan p in r rounds shows such an asker what is told without a plan.
 abbrev pub ToldWithout : (List ℕ → List ℕ) → Task → Plan → ℕ → Type 0
 ToldWithout H t p r = T (fits t p) → (f : Other) → SimulatedRuns H t p f r

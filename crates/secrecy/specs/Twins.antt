@@ -30,8 +30,8 @@ pub record OnlyNumbers (H : List ℕ → List ℕ) : Type 0 where
 
 -- The lines of a showing of plan p with lots, and of one of plan q with others; lots and words the last first. In each round the two lots have the same chances, so that
 -- the texts of a train's two boxes differ at most in the byte of the number; where a pair is opened, its two trains have the same numbers in both, so that their
--- texts, their digests and the Opened are the same too. All else is the same. So this is what a premise on SHA-256 has yet to cover: that nobody who doesn't know a chance
--- can tell apart digests of two texts with it that differ in the number
+-- texts, their digests and the Opened are the same too. All else is the same. So what the premise on SHA-256 has yet to cover are the digests of boxes that stay closed, of
+-- two rows of numbers, under the same chances
 pub data Twins (H : List ℕ → List ℕ) (t : Task) (p q : Plan) : List Lot → List Lot → List Event → List Event → Type 0 where
   begun : Twins H t p q [] [] (sent (task_bytes t) ∷ []) (sent (task_bytes t) ∷ [])
   -- what is heard

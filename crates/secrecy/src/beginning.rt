@@ -6,7 +6,7 @@ ghost use Rattle.tasks.specs.Reading.{Meets};
 ghost use Rattle.planning.specs.Model.{begun_of};
 ghost use Rattle.planning.specs.Planning.{start};
 ghost use Rattle.planning.specs.Conduct.{Conduct};
-ghost use Rattle.secrecy.specs.Secrecy.{KeptSecret};
+ghost use Rattle.secrecy.specs.Secrecy.{SecretOfPlan};
 ghost use Rattle.secrecy.specs.Simulated.{ToldWithout};
 
 use planning::{Begun, Ready};
@@ -19,7 +19,7 @@ use tasks::{Fault, Plan, Rounds, Task};
 pub fn start(heap: Global, task: Task, plan: Plan, rounds: Rounds) -> Result<Begun, Fault>
     ensures answer { Meets begun_of result (start sha256 (task_of task) (plan_of plan) rounds.count) }
     ensures conduct { (hash : List ℕ → List ℕ) → Conduct hash (task_of task) (plan_of plan) rounds.count }
-    ensures secrecy { KeptSecret sha256 (task_of task) (plan_of plan) rounds.count }
+    ensures secrecy { SecretOfPlan sha256 (task_of task) (plan_of plan) rounds.count }
     ensures simulated { ToldWithout sha256 (task_of task) (plan_of plan) rounds.count }
 {
     Ready::start(heap, task, plan, rounds)

@@ -8,7 +8,7 @@ ghost use Rattle.planning.specs.Model.{begun_of};
 ghost use Rattle.planning.specs.Planning.{start};
 ghost use Rattle.secrecy.specs.Lots.{ByLots};
 ghost use Rattle.secrecy.specs.Misses.{GlassShows};
-ghost use Rattle.secrecy.specs.Secrecy.{KeptSecret, Secrecy};
+ghost use Rattle.secrecy.specs.Secrecy.{SecretOfPlan, Secrecy};
 ghost use Rattle.secrecy.specs.Simulated.{ToldWithout};
 ghost use Rattle.joined.specs.Answered.{Completes};
 ghost use Rattle.joined.specs.Cases.{AllHold, cases, faults};
@@ -28,7 +28,7 @@ use tasks::{Fault, Plan, Rounds, Task};
 pub fn start_planner(heap: Global, task: Task, plan: Plan, rounds: Rounds) -> Result<Begun, Fault>
     ensures answer { Meets begun_of result (start sha256 (task_of task) (plan_of plan) rounds.count) }
     ensures conduct { (hash : List ℕ → List ℕ) → Conduct hash (task_of task) (plan_of plan) rounds.count }
-    ensures this_plan { KeptSecret sha256 (task_of task) (plan_of plan) rounds.count }
+    ensures this_plan { SecretOfPlan sha256 (task_of task) (plan_of plan) rounds.count }
     ensures simulated { ToldWithout sha256 (task_of task) (plan_of plan) rounds.count }
     ensures secrecy { Secrecy sha256 }
     ensures by_lots { ByLots }

@@ -4,8 +4,8 @@ use Rattle.paths.specs.Plan.{at}
 use Rattle.round.specs.Line.{Event, sent, heard, Other, Ran}
 use Rattle.round.specs.Over.{Outcome}
 
--- of a Boxes word that is sent, only what stands before the digests; of any other word all. Nothing is lost by leaving out the digests of boxes that are opened
--- later: who has the opening can compute them
+-- of a Boxes word that is sent, only what stands before the digests; of any other word all. The digest of a box that is opened can be computed from the opening, but by
+-- then the question has been put
 abbrev pub hide : Event → Event
 hide (sent w) = sent (cond (at w 0 == 3) (take 7 w) w)
 hide (heard w) = heard w
@@ -15,9 +15,9 @@ abbrev pub unaware : Other → Other
 unaware f = λ line. f (map hide line)
 
 -- all that such an asker sees: the words, and how it ended; the book's digest is one over digests, and left out too
-pub record Hidden : Type 0 where
+pub record View : Type 0 where
   pub line : List Event
   pub outcome : Outcome
 
-abbrev pub hidden : Ran → Hidden
-hidden x = record { line = map hide x.line; outcome = x.over.outcome }
+abbrev pub view_of : Ran → View
+view_of x = record { line = map hide x.line; outcome = x.over.outcome }
