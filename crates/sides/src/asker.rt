@@ -25,6 +25,7 @@ use tasks::{Rounds, Task};
 // plan fits, whatever is said to it, it is content in few of the ways to ask, or two texts of one digest are at hand, and so of the bytes that it draws; whatever
 // the task, a planner with whom it is content in more ways has a plan that fits, which is computed from that planner's own answers, or such texts; with an honest
 // planner both are content, unless drawn bytes are too few; after a refusal nothing more is sent; and the judge passes what it records.
+#[tactic(auto, using(crate::proofs::Told::asker_laws))]
 pub fn start_asker(heap: Global, task: Task, rounds: Rounds) -> Result<Awaiting, AllocError>
     ensures state { IfOk result (λ s. awaiting_of s ≡ record { task = task_of task; rounds = rounds.count }) }
     ensures conduct { (hash : List ℕ → List ℕ) → Conduct hash (task_of task) rounds.count }

@@ -25,6 +25,7 @@ use tasks::{Fault, Plan, Rounds, Task};
 // A showing of the plan in so many rounds, or the fault for which there is none. Of its runs it is promised: they keep to the planner's conduct; an asker whose
 // words don't hang on the digests of Boxes sees the same of any other plan that fits, and what is told without a plan, as often; what is properly asked for is answered so that the asker accepts it; with an
 // honest asker both are content, unless drawn bytes are too few; after a refusal nothing more is sent; and the judge never blames the planner.
+#[tactic(auto, using(crate::proofs::Told::planner_laws))]
 pub fn start_planner(heap: Global, task: Task, plan: Plan, rounds: Rounds) -> Result<Begun, Fault>
     ensures answer { Meets begun_of result (start sha256 (task_of task) (plan_of plan) rounds.count) }
     ensures conduct { (hash : List ℕ → List ℕ) → Conduct hash (task_of task) (plan_of plan) rounds.count }
