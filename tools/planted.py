@@ -106,13 +106,15 @@ def agrees(bug, said):
 
 
 def count():
-    print("| crate | planted | src | proof | shape | limit | passes | once let through |")
-    print("|---|---|---|---|---|---|---|---|")
+    print("| crate | planted | refused at once | refused since a contract is stronger | of these in a proof file | only by form, or at a limit | not refused |")
+    print("|---|---|---|---|---|---|---|")
     for file in sorted((TOP / "planted").glob("*.bugs")):
         bugs = bugs_of(file.stem)[1:]
         said = Counter(it.says.split()[0] if it.says else "" for it in bugs)
-        once = sum(it.once != "" for it in bugs)
-        print(f"| `{file.stem}` | {len(bugs)} | {' | '.join(str(said[it] or '') for it in WORDS)} | {once or ''} |")
+        refused = [it for it in bugs if it.says.startswith(("src", "proof"))]
+        since = sum(it.once != "" for it in refused)
+        cells = [len(refused) - since, since, said["proof"], said["shape"] + said["limit"], said["passes"]]
+        print(f"| `{file.stem}` | {len(bugs)} | {' | '.join(str(it or '') for it in cells)} |")
 
 
 def run(crates, only, only_say):

@@ -16,7 +16,7 @@ took d = d.taken
 abbrev pub left_of : Drawn → List ℕ
 left_of d = drop (took d) (held d)
 
--- nothing is lost, and nothing is used again: what the last round left over is held, and then come bytes that were read since
+-- nothing that was held is lost or used again: what the last round left over is held, and behind it what was read since
 abbrev pub GoesOn : Drawn → Drawn → Type 0
 GoesOn old new = StartsWith (held new) (left_of old)
 
