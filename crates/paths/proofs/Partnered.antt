@@ -1,10 +1,8 @@
 -- The order in which each path has its partner's number: it is an order of as many paths. Assumes nothing.
-use Rattle.std.proofs.Common.{◌≡◌, ℕ, zero, suc, ◌+◌, ◌<◌, ◌≤◌, Bool, true, false, ◌&&◌, T, ltb, ◌≢◌, List, [], ◌∷◌, map, length, take, Some, sym, refl, ap, subst, ◌∙◌, inl, inr, arith}
-use Rattle.std.proofs.lemmas.List.{ext_get_or, get_or-take, length-take-le}
-use denote.Param.Members.{Mut, Called}
-use Rattle.std.specs.Array.{IsFromFnResult, IsFromFnResultFrom}
-use Rattle.std.proofs.lemmas.Bool.{cases_eq, and_parts, and_from, ltb-true, not-true, eqb-false}
-use Rattle.paths.specs.Plan.{Task, at, all_below, different}
+use Rattle.std.proofs.Common.{◌≡◌, ℕ, ◌+◌, ◌<◌, ◌≤◌, Bool, true, false, ◌&&◌, T, ltb, ◌≢◌, List, [], ◌∷◌, ◌++◌, map, length, take, set, Some, sym, refl, ap, ◌∙◌, add-one, arith}
+use Rattle.std.proofs.lemmas.List.{map_push, take_more_set, take_all}
+use Rattle.std.proofs.lemmas.Bool.{and_parts, and_from, ltb-true, not-true, eqb-false}
+use Rattle.paths.specs.Plan.{Task, all_below, different}
 use Rattle.paths.specs.Cheat.{up_to}
 use Rattle.paths.specs.Promise.{IsCoin}
 use Rattle.paths.specs.Order.{none_twice}
@@ -12,29 +10,20 @@ use Rattle.std.specs.Bool.{then_some}
 use Rattle.paths.specs.Partners.{are_two, paired_by, paired}
 use Rattle.paths.specs.declared.partners.TwoPaths.{TwoPaths}
 use Rattle.paths.specs.declared.partners.Partners.{Partners}
-use Rattle.paths.proofs.Rows.{at_made, length_made}
 use Rattle.paths.proofs.Paired.{coin_fits}
 
 true_is : (b : Bool) → T b → b ≡ true
 true_is true h = refl
 true_is false h = absurd h
 
--- what is made place by place, by calls of which each gives h of its place
-module _ {F : Type 0} (g : Mut F (ℕ × Unit {0}) ℕ) (f : F) (h : ℕ → ℕ) (ys : List ℕ) (m : ℕ) (calls : (i y : ℕ) (q : F) → i < m → Called g f (i, tt) y q → (q ≡ f) × (y ≡ h i)) where
-  made_from : (n i : ℕ) (q : F) → i + n ≤ m → q ≡ f → IsFromFnResultFrom g q ys i n → (k : ℕ) → i ≤ k → k < i + n → at ys k ≡ h k
-  made_from zero i q l e y k a b = absurd (omega arith)
-  made_from (suc n) i q l e y k a b =
-      let c = calls i y.1 y.0 (omega arith) (subst (λ p. Called g p (i, tt) y.1 y.0) e y.3) in
-      elim (cases_eq k i) [
-        | inl s ↦ ap (at ys) s ∙ (y.2.1 0 ∙ (c.1 ∙ ap h (sym s)))
-        | inr d ↦ made_from n (i + 1) y.0 (omega arith) c.0 y.4 k (omega arith) (omega arith)
-      ]
+-- a row that is made from the front: one number more, and all
+module _ (f : ℕ → ℕ) (ys : List ℕ) (i : ℕ) (e : take i ys ≡ map f (up_to i)) where
+  pub made_more : (v : ℕ) → i < length ys → v ≡ f i → take (i + 1) (set ys i v) ≡ map f (up_to (i + 1))
+  unfolding up_to
+  made_more v h g = take_more_set ys i v h ∙ (ap (λ zs. zs ++ v ∷ []) e ∙ rw (add-one i, map_push f (up_to i) i, g) refl)
 
-  pub made : IsFromFnResult g f ys m → (n : ℕ) → n ≤ m → take n ys ≡ map h (up_to n)
-  made r n l =
-      let t = length-take-le n ys (omega (arith, r.long)) in
-      ext_get_or 0 (take n ys) (map h (up_to n)) (t ∙ sym (length_made h n)) (λ i s.
-      get_or-take n ys i 0 (omega (arith, t)) ∙ (made_from m 0 f (omega arith) refl r.each i (omega arith) (omega (arith, t)) ∙ sym (at_made h n i (omega (arith, t)))))
+  pub made_all : length ys ≤ i → (n : ℕ) → length ys ≡ n → i ≤ n → ys ≡ map f (up_to n)
+  made_all h n l g = let z : i ≡ n = omega (arith, h, l, g) in sym (take_all i ys h) ∙ (e ∙ ap (λ k. map f (up_to k)) z)
 
 -- two different paths that are there
 record Two (k : ℕ) (t : TwoPaths) : Type 0 where

@@ -6,7 +6,6 @@ ghost use Rattle.paths.specs.Pairing.{rank, nth};
 ghost use Rattle.paths.specs.Partners.{are_two, partner_of, paired_by, paired};
 
 use super::order::Order;
-use std::array;
 
 // A struct of its own, as the pairs of other things in other crates: a `Two<u8>` would not say of what.
 #[derive(Clone, Copy, Debug, PartialEq, Eq)]
@@ -84,13 +83,24 @@ impl Order {
     }
 }
 
-// The numbers of the partners of paths 0, 1, .., and 0 where a path isn't there.
+// The numbers of the partners of paths 0, 1, ..
+fn put_numbers(theirs: &mut [u8], numbers: &[u8], partners: Partners)
+    requires few { length numbers.now ≤ 64 }
+    requires room { length theirs.old ≡ length numbers.now }
+    ensures { theirs.new ≡ paired_by partners numbers.now }
+{
+    for (path, number) in theirs.iter_mut().enumerate() {
+        let partner = partners.partner_of(path as u8);
+        *number = numbers.get(partner as usize).copied().unwrap_or(0);
+    }
+}
+
+// The same at the front of an array. A turn for each path that is there, and no `array::from_fn`: its 64 turns were most of what a round took.
 fn partners_numbers(numbers: &[u8], partners: Partners) -> [u8; 64]
     requires { length numbers.now ≤ 64 }
     ensures { take (length numbers.now) result ≡ paired_by partners numbers.now }
 {
-    array::from_fn(|path| {
-        let partner = partners.partner_of(path as u8);
-        numbers.get(partner as usize).copied().unwrap_or(0)
-    })
+    let mut theirs = [0; 64];
+    put_numbers(&mut theirs[..numbers.len()], numbers, partners);
+    theirs
 }
