@@ -1,14 +1,13 @@
 -- One turn of each loop that lists or puts the pairs of the built task.
-use Rattle.std.proofs.Common.{◌≡◌, ℕ, ◌+◌, ◌<◌, ◌≤◌, cond, ◌&&◌, List, [], ◌∷◌, ◌++◌, map, length, Bool, get_or, take, drop, sym, refl, ap, ◌∙◌, append_assoc, add-one, arith}
+use Rattle.std.proofs.Common.{◌≡◌, ℕ, ◌+◌, ◌<◌, ◌≤◌, ◌&&◌, List, [], ◌∷◌, ◌++◌, map, length, get_or, take, drop, sym, refl, ap, ◌∙◌, append_assoc, add-one, arith}
 use mathlib.Core.List.{map-append}
 use Rattle.std.specs.List.{list_all}
-use Rattle.std.proofs.lemmas.List.{take_more, drop_more, drop_all}
+use Rattle.std.proofs.lemmas.List.{take_more, drop_all}
 use Rattle.paths.specs.Plan.{Pair, Task}
 use Rattle.tasks.specs.declared.pair.Pair.{Pair as CodePair}
 use Rattle.prohibitions.specs.declared.prohibiting.Prohibition.{Prohibition}
 use Rattle.tasks.specs.Pair.{pair_of}
 use Rattle.prohibitions.specs.Prohibiting.{put, put_all, with_each, every_two, pair_for, is_named, named}
-use Rattle.prohibitions.specs.Putting.{is_among, different_after}
 use Rattle.tasks.proofs.Mapped.{one_left, as_many}
 
 -- what was added, and one part more
@@ -29,18 +28,6 @@ pub named_is : (t : Task) (bs : List Prohibition) → list_all (is_named t) bs �
 unfolding named
 named_is t [] = refl
 named_is t (b ∷ bs) = ap (λ x. is_named t b && x) (named_is t bs)
-
--- one prohibition more is counted, unless it was seen
-pub count_more : (bs : List Prohibition) (i : ℕ) (d : Prohibition) (seen : Bool) (n m all : ℕ) → i < length bs → seen ≡ is_among (get_or bs i d) (take i bs) → m ≡ n + cond seen 0 1 →
-    n + different_after (take i bs) (drop i bs) ≡ all → m + different_after (take (i + 1) bs) (drop (i + 1) bs) ≡ all
-unfolding different_after
-count_more bs i d seen n m all h s e v =
-    let f : different_after (take i bs) (drop i bs) ≡ cond (is_among (get_or bs i d) (take i bs)) 0 1 + different_after (take (i + 1) bs) (drop (i + 1) bs) = rw (drop_more bs i d h, take_more bs i d h) refl in
-    omega (arith, f, v, e, ap {B = ℕ} (λ b. cond b 0 1) s)
-
-pub none_more : (bs : List Prohibition) (i n all : ℕ) → length bs ≤ i → n + different_after (take i bs) (drop i bs) ≡ all → n ≡ all
-unfolding different_after
-none_more bs i n all h e = omega (arith, ap (λ xs. n + different_after (take i bs) xs) (sym (drop_all i bs h)) ∙ e)
 
 pub for-more : (n : ℕ) (bs : List Prohibition) (i : ℕ) (d : Prohibition) (old was new : List CodePair) (x : CodePair) → i < length bs → map pair_of was ≡ map pair_of old ++ map (pair_for n) (take i bs) → new ≡ was ++ x ∷ [] →
     pair_of x ≡ pair_for n (get_or bs i d) → map pair_of new ≡ map pair_of old ++ map (pair_for n) (take (i + 1) bs)

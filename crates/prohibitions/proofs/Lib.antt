@@ -6,3 +6,4 @@ pub mod Prohibits
 pub mod Adding
 pub mod Building
 pub mod Counting
+pub mod Lasts

@@ -1,6 +1,6 @@
 // Trains that may not use some path: the task is built anew, with a train more for each path. All is looked at before anything is kept, so that a fault is told
 // even where memory is wanting.
-ghost use Rattle.std.specs.Prelude.{◌≡◌, ◌+◌, ◌≤◌, [], true, map, length, IfOk, ◌++◌};
+ghost use Rattle.std.specs.Prelude.{◌≡◌, ◌+◌, ◌≤◌, [], true, map, length, IfOk, ◌++◌, nat_le};
 ghost use Rattle.tasks.specs.Model.{task_of};
 ghost use Rattle.tasks.specs.Pair.{pair_of};
 ghost use Rattle.tasks.specs.Reading.{Meets};
@@ -32,27 +32,33 @@ fn all_named(task: &Task, prohibitions: &[Prohibition]) -> bool
         .all(|prohibition| is_named(task, *prohibition))
 }
 
-// How many different ones these are: each is counted where it stands first.
-fn count_different(prohibitions: &[Prohibition]) -> usize
-    ensures different { result ≡ different_after [] prohibitions.now }
-    ensures most { result ≤ length prohibitions.now }
+// Are there no more different ones than so many? From the back, where each is counted as it stands last: one that comes again is found where it comes next, so looking
+// for all of one kind goes through the list once, and nothing is looked for once there are too many.
+fn few_different(prohibitions: &[Prohibition], most: usize) -> bool
+    ensures { result ≡ nat_le (different_after [] prohibitions.now) most }
 {
     let mut count = 0;
-    for (i, prohibition) in prohibitions.iter().enumerate() {
-        if !prohibitions[..i].contains(prohibition) {
+    for i in (0..prohibitions.len()).rev() {
+        let (_, later) = prohibitions.split_at(i + 1);
+        if !later.contains(&prohibitions[i]) {
+            if count == most {
+                return false;
+            }
             count += 1;
         }
     }
-    count
+    true
 }
 
-// How many pairs the built task has: those of the task, every two of the trains that are added, and one for each different prohibition.
-fn count_pairs(task: &Task, prohibitions: &[Prohibition]) -> usize
+// Has the built task few enough pairs? It has those of the task, every two of the trains that are added, and one for each different prohibition.
+fn few_pairs(task: &Task, prohibitions: &[Prohibition]) -> bool
     requires { named (task_of task.now) prohibitions.now ≡ true }
-    ensures { result ≡ length (built (task_of task.now) prohibitions.now).pairs }
+    ensures { result ≡ nat_le (length (built (task_of task.now) prohibitions.now).pairs) 4096 }
 {
     let paths = task.paths as usize;
-    task.pairs.len() + paths * (paths - 1) / 2 + count_different(prohibitions)
+    let others = task.pairs.len() + paths * (paths - 1) / 2;
+    let most = MOST_PAIRS as usize;
+    others <= most && few_different(prohibitions, most - others)
 }
 
 fn can_build(task: &Task, prohibitions: &[Prohibition]) -> bool
@@ -60,7 +66,7 @@ fn can_build(task: &Task, prohibitions: &[Prohibition]) -> bool
 {
     task.trains + task.paths as u16 <= MOST_TRAINS
         && all_named(task, prohibitions)
-        && count_pairs(task, prohibitions) <= MOST_PAIRS as usize
+        && few_pairs(task, prohibitions)
 }
 
 // Puts a pair at its place among pairs in rising order, unless it is there.
