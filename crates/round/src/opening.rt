@@ -3,6 +3,8 @@ ghost use Rattle.std.specs.Prelude.{◌≡◌, ℕ, ◌+◌, ◌*◌, ◌≤◌,
 ghost use Rattle.std.specs.Bool.{then_some};
 ghost use Rattle.tasks.specs.Model.{task_of, plan_of};
 ghost use Rattle.boxes.specs.Model.{opening_of};
+ghost use Rattle.words.specs.Said.{opened};
+ghost use Rattle.words.specs.Writing.{said_bytes};
 ghost use Rattle.lots.specs.Views.{lot_of};
 ghost use Rattle.round.specs.Laws.{OpensByLot};
 ghost use Rattle.round.specs.Round.{part_of, opening_for, opened_bytes, Complete};
@@ -12,7 +14,7 @@ use boxes::Opening;
 use fitting::pair_at;
 use lots::Lot;
 use tasks::{Plan, Task, path_of};
-use words::opened_bytes;
+use words::{Word, write_word};
 
 // The 32 bytes of a train among those of all trains, if they are there.
 pub(super) fn part_of(bytes: &[u8], train: u16) -> Option<[u8; 32]>
@@ -33,6 +35,15 @@ fn opening_for(plan: &Plan, lot: &Lot, train: u16) -> Opening
     }
 }
 
+// The Opened as the writer of all words writes it.
+fn written(round: u32, first: Opening, second: Opening) -> [u8; 75]
+    ensures { result ≡ said_bytes (opened round (opening_of first) (opening_of second)) }
+{
+    let mut bytes = [0; 75];
+    write_word(Word::Opened(round, first, second), &mut bytes);
+    bytes
+}
+
 // The Opened of the round for the pair with this number. None where there is no such pair, or the chances are too few. It opens boxes of the coin that the lot is, and
 // is accepted.
 #[tactic(auto, using(crate::proofs::Complete::complete, crate::proofs::Opens::opens_by_lot))]
@@ -47,5 +58,5 @@ pub fn opened_word(task: &Task, plan: &Plan, round: u32, lot: &Lot, pair: u16) -
     }
     let first = opening_for(plan, lot, asked.first);
     let second = opening_for(plan, lot, asked.second);
-    Some(opened_bytes(round, first, second))
+    Some(written(round, first, second))
 }
