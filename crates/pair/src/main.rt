@@ -1,6 +1,9 @@
 // The pair: from the coins of one plan it makes the coins of another plan that show the same, and prints them.
 #![tactic(auto)]
 
+ghost use Rattle.std.specs.Prelude.{◌≡◌, IfOk};
+ghost use Rattle.command.specs.declared.problem.Ending.TheVariants.{Well};
+
 use arguments::{Arguments, Wrong};
 use command::{Ending, Input, Problem, Program, Usage, load_fitting_plan, load_task, run};
 use pairing::{Plans, ask_in};
@@ -114,6 +117,9 @@ impl Program for ThePair {
   --asked FILE    the pairs that were asked for: the words that ask for them, of rounds 0, 1, ..
   --help          print this and do nothing else",
     };
+
+    // Where there is no problem, all is well.
+    ghost ends = { λ _ outcome. IfOk outcome (λ ending. ending ≡ Well) };
 
     fn run(rt: &HostRuntime, arguments: Arguments) -> Result<Ending, Problem> {
         let Options {
