@@ -4,7 +4,14 @@
 
 use lanes::digests;
 use sha256::{Hasher, digest};
-use std::{array, io};
+use std::io::ErrorKind;
+use std::{array, io, str};
+
+// A digest as text, in memory that is lent: what only prints wants none from the heap. Neither error comes.
+fn text_of(digest: [u8; 32], text: &mut [u8; 64]) -> io::Result<&str> {
+    hex::encode_to_slice(digest, text).map_err(|_| io::Error::from(ErrorKind::InvalidInput))?;
+    str::from_utf8(text).map_err(|_| io::Error::from(ErrorKind::InvalidData))
+}
 
 fn published(rt: &HostRuntime) -> io::Result<()> {
     let messages: [&str; 4] = [
@@ -13,8 +20,9 @@ fn published(rt: &HostRuntime) -> io::Result<()> {
         "abcdbcdecdefdefgefghfghighijhijkijkljklmklmnlmnomnopnopq",
         "abcdefghbcdefghicdefghijdefghijkefghijklfghijklmghijklmnhijklmnoijklmnopjklmnopqklmnopqrlmnopqrsmnopqrstnopqrstu",
     ];
+    let mut text = [0; 64];
     for m in messages {
-        let d = hex::encode(rt.alloc(), digest(m.as_bytes()))?;
+        let d = text_of(digest(m.as_bytes()), &mut text)?;
         println!(rt; "\"{m}\" {d}")?;
     }
     Ok(())
@@ -46,10 +54,11 @@ fn in_parts(m: &[u8]) -> [u8; 32] {
 fn edges(rt: &HostRuntime) -> io::Result<()> {
     let m: [u8; 130] = array::from_fn(|i| i as u8);
     let lengths: [usize; 14] = [1, 54, 55, 56, 57, 63, 64, 65, 118, 119, 120, 127, 128, 129];
+    let mut text = [0; 64];
     for n in lengths {
-        let whole = hex::encode(rt.alloc(), digest(&m[0..n]))?;
-        let parts = hex::encode(rt.alloc(), in_parts(&m[0..n]))?;
+        let whole = text_of(digest(&m[0..n]), &mut text)?;
         println!(rt; "{n} bytes {whole}")?;
+        let parts = text_of(in_parts(&m[0..n]), &mut text)?;
         println!(rt; "{n} bytes in parts {parts}")?;
     }
     Ok(())
@@ -60,8 +69,9 @@ fn texts(rt: &HostRuntime) -> io::Result<()> {
     let all = digests(&[
         [0; 39], [1; 39], [2; 39], [3; 39], [4; 39], [5; 39], [6; 39], [7; 39],
     ]);
-    for (j, text) in all.iter().enumerate() {
-        let d = hex::encode(rt.alloc(), *text)?;
+    let mut text = [0; 64];
+    for (j, digest) in all.iter().enumerate() {
+        let d = text_of(*digest, &mut text)?;
         println!(rt; "text {j} {d}")?;
     }
     Ok(())
@@ -69,7 +79,8 @@ fn texts(rt: &HostRuntime) -> io::Result<()> {
 
 fn main(rt: HostRuntime) -> io::Result<()> {
     published(&rt)?;
-    let d = hex::encode(rt.alloc(), million())?;
+    let mut text = [0; 64];
+    let d = text_of(million(), &mut text)?;
     println!(rt; "a million times \"a\" {d}")?;
     edges(&rt)?;
     texts(&rt)
