@@ -45,12 +45,12 @@ module _ (s : ℕ) (bs : List ℕ) (i : ℕ) where
       drawn (s ∷ []) (drop i bs) ≡ cond (ltb (value_at bs i) (limit (2 ^ 32) s)) (more (value_at bs i % s) (drawn [] (drop (i + 4) bs))) (drawn (s ∷ []) (drop (i + 4) bs))
   four-drawn l = ap (drawn (s ∷ [])) (four-at bs i l) ∙ drawn-four s [] (at bs i) (at bs (i + 1)) (at bs (i + 2)) (at bs (i + 3)) (drop (i + 4) bs)
 
-  number_used : i + 4 ≤ length bs → value_at bs i < limit (2 ^ 32) s → number_in s (drop i bs) ≡ got record { what = value_at bs i % s; left = drop (i + 4) bs }
+  pub number_used : i + 4 ≤ length bs → value_at bs i < limit (2 ^ 32) s → number_in s (drop i bs) ≡ got record { what = value_at bs i % s; left = drop (i + 4) bs }
   number_used l u =
       ap (had_by (λ ds. at ds 0)) (four-drawn l ∙ ap (λ t. cond t (more (value_at bs i % s) (drawn [] (drop (i + 4) bs))) (drawn (s ∷ []) (drop (i + 4) bs))) (lt-ltb _ _ u)
       ∙ ap (more (value_at bs i % s)) (drawn-none (drop (i + 4) bs)))
 
-  number-over : i + 4 ≤ length bs → limit (2 ^ 32) s ≤ value_at bs i → number_in s (drop i bs) ≡ number_in s (drop (i + 4) bs)
+  pub number-over : i + 4 ≤ length bs → limit (2 ^ 32) s ≤ value_at bs i → number_in s (drop i bs) ≡ number_in s (drop (i + 4) bs)
   number-over l u =
       ap (had_by (λ ds. at ds 0)) (four-drawn l ∙ ap (λ t. cond t (more (value_at bs i % s) (drawn [] (drop (i + 4) bs))) (drawn (s ∷ []) (drop (i + 4) bs))) (le-ltb _ _ u))
 

@@ -77,7 +77,7 @@ not_same xs ys h = go (cases_Bool (same_row xs ys))
     go (inr e) = sym e
 
 -- a box that isn't there is not opened
-opens-none : (H : List ℕ → List ℕ) → ((x : List ℕ) → length (H x) ≡ 32) → (n : ℕ) (digests : List ℕ) (x : Opening) → length digests < 32 * x.train + 32 →
+pub opens-none : (H : List ℕ → List ℕ) → ((x : List ℕ) → length (H x) ≡ 32) → (n : ℕ) (digests : List ℕ) (x : Opening) → length digests < 32 * x.train + 32 →
     false ≡ opens_in H n digests x
 opens-none H h n digests x l =
     let short : length (part_of digests x.train) < 32 = simp (length-take, length-drop) (omega arith) in

@@ -24,7 +24,7 @@ unfolding bytes
 bytes_eight x = rw (div-one x)
 
 -- x keeps its low bytes modulo 2 ^ w
-bytes-mod : (k w x : ℕ) → 8 * k ≤ w → bytes k (x % 2 ^ w) ≡ bytes k x
+pub bytes-mod : (k w x : ℕ) → 8 * k ≤ w → bytes k (x % 2 ^ w) ≡ bytes k x
 unfolding bytes
 bytes-mod zero w x h = refl
 bytes-mod (suc k) w x h =

@@ -49,7 +49,7 @@ one_block s p h =
     let e : length p / 64 ≡ 1 = omega arith in
     rw (e, take_all 64 p (omega arith))
 
-two_blocks : (s : State ℕ) (p q : List ℕ)
+pub two_blocks : (s : State ℕ) (p q : List ℕ)
     → length p ≡ 64 → length q ≡ 64 → compress (compress s p) q ≡ hashed s (p ++ q) (length (p ++ q) / 64)
 two_blocks s p q h l =
     let e : length (p ++ q) / 64 ≡ 1 + 1 = omega (arith, length-append p q) in
@@ -77,7 +77,7 @@ zeros-next : (n r : ℕ) → n % 64 ≡ r → 56 ≤ r → r < 64 → zeros n �
 unfolding zeros
 zeros-next n r e h l = omega arith
 
-padding_here : (rest : List ℕ) (n t : ℕ)
+pub padding_here : (rest : List ℕ) (n t : ℕ)
     → n % 64 ≡ length rest → n % 2 ^ 64 ≡ t → length rest < 56
     → rest ++ padding n ≡ take 56 (mark rest) ++ bytes 8 (8 * t)
 unfolding padding
@@ -89,7 +89,7 @@ padding_here rest n t e f h =
     let m : mark rest ≡ p ++ replicate 8 0 = cc (replicate-append-replicate {A = ℕ} k 8 0, append_assoc rest (0x80 ∷ replicate k 0) (replicate 8 0)) in
     cc (zeros_here n (length rest) e h, bits_mod n t f, take_at p (replicate 8 0) 56 l, append_assoc rest (0x80 ∷ replicate k 0) (bytes 8 (8 * n)))
 
-padding-next : (rest : List ℕ) (n t : ℕ)
+pub padding-next : (rest : List ℕ) (n t : ℕ)
     → n % 64 ≡ length rest → n % 2 ^ 64 ≡ t → 56 ≤ length rest → length rest < 64
     → rest ++ padding n ≡ mark rest ++ (take 56 (replicate 64 0) ++ bytes 8 (8 * t))
 unfolding padding

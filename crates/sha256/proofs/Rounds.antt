@@ -37,7 +37,7 @@ unfolding steps
 steps-more s w t = rw add-one
 
 -- rounds read only the words before them
-steps_front : (s : State ℕ) (w v : List ℕ) (t : ℕ) → t ≤ length w → steps s (w ++ v) t ≡ steps s w t
+pub steps_front : (s : State ℕ) (w v : List ℕ) (t : ℕ) → t ≤ length w → steps s (w ++ v) t ≡ steps s w t
 unfolding steps
 steps_front s w v zero h = refl
 steps_front s w v (suc t) h = cc (steps_front s w v t (omega arith), get_or_append_left w v 0 t h)

@@ -161,7 +161,7 @@ module _ (H : List ℕ → List ℕ) (other : Other) (t : Task) (good : sound t 
         let none = or_parts (hit H (texts_at H other s line)) _ (not-true here (and_parts (not here) _ (h 0 (omega (arith, (guarantees t good).some_pair)))).0) in
         subst T none.1 (plan-fits H other s good line none.0 (λ i l. (and_parts (not here) _ (h i l)).1))
 
-    bound_round : Bound (suc left) (on s) line
+    pub bound_round : Bound (suc left) (on s) line
     bound_round =
         rw (count-more (luck (on s) line) (pairs_of t) left)
         (elim (most lucks (λ i. not here && accepts H other s line i) ((pairs_of t - 1) ^ left) one-here (pairs_of t)) [
